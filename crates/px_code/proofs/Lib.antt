@@ -1,0 +1,4 @@
+pub mod Bounds
+pub mod Following
+pub mod Front
+pub mod Starts
