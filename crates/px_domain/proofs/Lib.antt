@@ -1,0 +1,5 @@
+pub mod Groups
+pub mod Numerals
+pub mod Ranges
+pub mod ReadBack
+pub mod Tuples

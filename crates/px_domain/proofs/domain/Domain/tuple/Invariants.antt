@@ -1,0 +1,5 @@
+use Rattle.px_domain.proofs.Tuples.{IsFilled}
+use Rattle.px_domain.proofs.domain.Domain.tuple.Given as goal
+
+abbrev pub invariant-loop-index : goal.invariant-loop-index
+invariant-loop-index l = IsFilled l.parts l.words.items l.fn.number l.rest l.index

@@ -1,0 +1,70 @@
+-- The argument words that a domain has, and its tuples by number.
+use Rattle.std.specs.Prelude.{◌≡◌, ℕ, ◌*◌, ◌/◌, ◌%◌, ◌<◌, ◌^◌, List, [], ◌∷◌, map, Option, Some, None, ℤ, pos, ◌+ℤ◌, ◌-ℤ◌, ◌≤ℤ◌}
+use Rattle.std.specs.Int.RustNames.{unsigned_abs}
+use Rattle.px_program.specs.declared.program.Place.{Place}
+use Rattle.px_program.specs.declared.program.Method.{Method}
+use Rattle.px_program.specs.declared.program.Program.{Program}
+use Rattle.px_program.specs.Formed.{entry_of}
+use Rattle.px_domain.specs.declared.domain.Part.{Part}
+use Rattle.px_domain.specs.declared.domain.Part.TheVariants.{Scalar}
+use Rattle.px_domain.specs.Place.{low_end, high_end, word_bits, number_of, word_of}
+
+-- the places of a method's parameters
+abbrev pub params_in : Option Method → List Place
+params_in None = []
+params_in (Some method) = method.params
+
+-- the places of the parameters of the program's entry
+abbrev pub params_of : Program → List Place
+params_of program = params_in (entry_of program)
+
+-- what a part ranges over
+abbrev pub place_of : Part → Place
+place_of (Scalar place low high) = place
+
+-- the first number of a part
+abbrev pub low_of : Part → ℤ
+low_of (Scalar place low high) = low
+
+-- what each part ranges over
+abbrev pub places_of : List Part → List Place
+places_of parts = map place_of parts
+
+-- the word lies in the part's range, read as its place says
+abbrev pub IsOf : ℕ → Part → Type 0
+IsOf word (Scalar place low high) = (word < 2 ^ word_bits place) × (low ≤ℤ number_of place word) × (number_of place word ≤ℤ high)
+
+-- there is one word for each part, and it lies in its range
+abbrev pub InDomain : List Part → List ℕ → Type 0
+InDomain [] [] = Unit {0}
+InDomain [] (word ∷ words) = ⊥
+InDomain (part ∷ parts) [] = ⊥
+InDomain (part ∷ parts) (word ∷ words) = IsOf word part × InDomain parts words
+
+-- the ends of a part lie in its place's range, in order
+abbrev pub IsRange : Part → Type 0
+IsRange (Scalar place low high) = (low_end place ≤ℤ low) × (low ≤ℤ high) × (high ≤ℤ high_end place)
+
+-- how many words a part has
+abbrev pub part_size : Part → ℕ
+part_size (Scalar place low high) = unsigned_abs ((high -ℤ low) +ℤ pos 1)
+
+-- how many tuples a domain has
+abbrev pub size_of : List Part → ℕ
+size_of [] = 1
+size_of (part ∷ parts) = part_size part * size_of parts
+
+-- the word of a number within a part, from 0
+abbrev pub word_at : Part → ℕ → ℕ
+word_at (Scalar place low high) k = word_of place (low +ℤ pos k)
+
+-- the tuple of a number: in mixed radix, the last word running fastest
+abbrev pub tuple_of : List Part → ℕ → List ℕ
+tuple_of [] k = []
+tuple_of (part ∷ parts) k = word_at part (k / size_of parts) ∷ tuple_of parts (k % size_of parts)
+
+-- the words are one of the tuples
+pub record IsTuple (parts : List Part) (words : List ℕ) : Type 0 where
+  pub number : ℕ
+  pub less : number < size_of parts
+  pub same : tuple_of parts number ≡ words

@@ -1,0 +1,16 @@
+//! The argument words that an exploration ranges over, their text and their tuples.
+#![tactic(auto)]
+
+mod cursor;
+mod domain;
+mod fault;
+mod number;
+mod place;
+mod read;
+#[cfg(test)]
+mod tests;
+
+pub use domain::{Domain, Part};
+pub use fault::DomainFault;
+pub use place::{Span, number_of, whole_of};
+pub use read::read_domain;
