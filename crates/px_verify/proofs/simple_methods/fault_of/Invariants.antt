@@ -1,0 +1,6 @@
+use Rattle.std.proofs.Common.{◌≡◌, ◌≤◌, drop}
+use Rattle.px_verify.specs.Simple.{fault_from}
+use Rattle.px_verify.proofs.simple_methods.fault_of.Given as goal
+
+abbrev pub invariant-loop-k : goal.invariant-loop-k
+invariant-loop-k l = record { room : l.depth ≤ 8; rest : fault_from l.method l.depth (drop l.k l.code) ≡ fault_from l.method 0 l.code }

@@ -1,0 +1,118 @@
+-- Simple methods: int32 constants and arguments, sums, branches with nothing left on the stack, and returns.
+-- The code is walked in order, with the number of operands on the stack.
+use Rattle.std.specs.Prelude.{◌≡◌, ℕ, ◌+◌, ◌-◌, ◌^◌, List, [], ◌∷◌, ◌==◌, ◌&&◌, ◌||◌, not, nat_lt, nat_le, Bool, true, false, if◌then◌else◌, Option, Some, None, slice_get}
+use Rattle.std.specs.List.{list_any}
+use Rattle.px_program.specs.declared.instr.Instr.{Instr}
+use Rattle.px_program.specs.declared.instr.Code.{Code}
+use Rattle.px_program.specs.declared.instr.Code.TheVariants as codes
+use Rattle.px_program.specs.declared.instr.Move.{Move}
+use Rattle.px_program.specs.declared.instr.Move.TheVariants as moves
+use Rattle.px_program.specs.declared.program.Method.{Method}
+use Rattle.px_program.specs.declared.program.Place.{Place}
+use Rattle.px_program.specs.declared.program.Place.TheVariants as places
+use Rattle.px_program.specs.declared.program.Program.{Program}
+use Rattle.px_program.specs.Formed.{IsWellFormed, entry_of, targets_of}
+
+-- how many operands an instruction takes
+abbrev pub taken : Code → ℕ
+taken codes.Nop = 0
+taken (codes.Move move) = 0
+taken (codes.Arithmetic operation) = 2
+taken (codes.Branch target) = 0
+taken (codes.BranchTruth when target) = 1
+taken (codes.BranchCompare test signed target) = 2
+taken codes.Return = 1
+taken (codes.Outside name opcode) = 0
+
+-- how many it leaves
+abbrev pub left : Code → ℕ
+left codes.Nop = 0
+left (codes.Move move) = 1
+left (codes.Arithmetic operation) = 1
+left (codes.Branch target) = 0
+left (codes.BranchTruth when target) = 0
+left (codes.BranchCompare test signed target) = 0
+left codes.Return = 0
+left (codes.Outside name opcode) = 0
+
+-- a branch or a return, behind which the stack is empty
+abbrev pub is_turn : Code → Bool
+is_turn codes.Nop = false
+is_turn (codes.Move move) = false
+is_turn (codes.Arithmetic operation) = false
+is_turn (codes.Branch target) = true
+is_turn (codes.BranchTruth when target) = true
+is_turn (codes.BranchCompare test signed target) = true
+is_turn codes.Return = true
+is_turn (codes.Outside name opcode) = false
+
+-- it never goes on to the next instruction
+abbrev pub is_last : Code → Bool
+is_last codes.Nop = false
+is_last (codes.Move move) = false
+is_last (codes.Arithmetic operation) = false
+is_last (codes.Branch target) = true
+is_last (codes.BranchTruth when target) = false
+is_last (codes.BranchCompare test signed target) = false
+is_last codes.Return = true
+is_last (codes.Outside name opcode) = false
+
+abbrev pub is_int32 : Option Place → Bool
+is_int32 None = false
+is_int32 (Some places.I4) = true
+is_int32 (Some _) = false
+
+-- an argument is that of an int32 parameter, and a constant is one of 32 bits
+abbrev pub has_value : List Place → Move → Bool
+has_value params (moves.Argument n) = is_int32 (slice_get params n)
+has_value params (moves.Constant wide pattern) = not wide && nat_lt pattern (2 ^ 32)
+
+-- the instruction is run, and names only what is there
+abbrev pub is_known : List Place → Code → Bool
+is_known params codes.Nop = true
+is_known params (codes.Move move) = has_value params move
+is_known params (codes.Arithmetic operation) = true
+is_known params (codes.Branch target) = true
+is_known params (codes.BranchTruth when target) = true
+is_known params (codes.BranchCompare test signed target) = true
+is_known params codes.Return = true
+is_known params (codes.Outside name opcode) = false
+
+-- some branch leads to the offset
+abbrev pub is_target : List Instr → ℕ → Bool
+is_target code at = list_any (λ i. list_any (λ target. target == at) (targets_of i.code)) code
+
+-- how many operands there are behind an instruction
+abbrev pub after : ℕ → Code → ℕ
+after depth code = depth - taken code + left code
+
+-- the instruction may stand where so many operands are, with more instructions behind it or not
+unfoldable pub is_fine : Method → Instr → ℕ → Bool → Bool
+is_fine method i depth more =
+    is_known method.params i.code && nat_le (taken i.code) depth && nat_le (after depth i.code) 8
+    && (not (is_turn i.code) || (after depth i.code == 0))
+    && (more || is_last i.code)
+    && ((depth == 0) || not (is_target method.code i.offset))
+
+abbrev pub has_more : List Instr → Bool
+has_more [] = false
+has_more (i ∷ rest) = true
+
+-- the first offset from here on at which an instruction may not stand
+abbrev pub fault_from : Method → ℕ → List Instr → Option ℕ
+fault_from method depth [] = None
+fault_from method depth (i ∷ rest) =
+    if is_fine method i depth (has_more rest) then fault_from method (after depth i.code) rest else Some i.offset
+
+abbrev pub fault_in : Option Method → Option ℕ
+fault_in None = Some 0
+fault_in (Some method) = fault_from method 0 method.code
+
+-- the first offset of the entry at which an instruction may not stand
+abbrev pub fault_of : Program → Option ℕ
+fault_of program = fault_in (entry_of program)
+
+-- a well-formed program whose entry is simple
+pub record IsSimple (program : Program) : Type 0 where
+  pub formed : IsWellFormed program
+  pub fine : fault_of program ≡ None
