@@ -1,0 +1,5 @@
+pub mod Rows
+pub mod Run
+pub mod Shape
+pub mod Table
+pub mod Words
