@@ -1,0 +1,6 @@
+//! Explores a verified program.
+#![tactic(auto)]
+
+mod explore;
+
+pub use explore::explore_one;

@@ -1,0 +1,158 @@
+// The lines of tests, and the whole report.
+ghost use Rattle.std.specs.Prelude.{◌≡◌, ◌++◌, codes, length};
+ghost use Rattle.std.specs.List.{AllByRecursion};
+ghost use Rattle.px_domain.specs.Domain.{InDomain};
+ghost use Rattle.px_domain.specs.Text.{args_text, domain_text};
+ghost use Rattle.px_io.specs.Puts.{Puts};
+ghost use Rattle.px_tests.specs.Ends.{end_text};
+ghost use Rattle.px_tests.specs.Text.{bounds_text, counts_text, end_part, limits_text, path_part, test_text, tests_text, text_of};
+
+use crate::domains::{put_args, put_domain};
+use crate::ends::put_end;
+use crate::lines::{put_bounds, put_counts, put_input, put_limits, put_path_part, put_test_head};
+use crate::{Findings, Input};
+use px_domain::Part;
+use px_io::Piece::Text;
+use px_io::{Sink, Stopped, put_pieces};
+use px_program::{End, Program, Record};
+
+fn put_line_end<O: Sink>(out: &mut O, program: &Program, end: End) -> Result<(), Stopped>
+    ensures { Puts O.written O.faults out.old (end_text program.now end ++ codes "\n") out.new result }
+{
+    put_end(out, program, end)?;
+    put_pieces(out, &[Text("\n")])
+}
+
+fn put_end_mark<O: Sink>(out: &mut O) -> Result<(), Stopped>
+    ensures { Puts O.written O.faults out.old (codes " end ") out.new result }
+{
+    put_pieces(out, &[Text(" end ")])
+}
+
+#[tactic(auto, using(px_io::proofs::Putting::writing), unfolding(crate::specs::Text::end_part))]
+fn put_end_part<O: Sink>(out: &mut O, program: &Program, end: End) -> Result<(), Stopped>
+    ensures { Puts O.written O.faults out.old (end_part program.now end) out.new result }
+{
+    put_end_mark(out)?;
+    put_line_end(out, program, end)
+}
+
+#[tactic(auto, using(px_io::proofs::Putting::writing))]
+fn put_path_and_end<O: Sink>(out: &mut O, program: &Program, record: &Record) -> Result<(), Stopped>
+    ensures { Puts O.written O.faults out.old (path_part record.now.events ++ end_part program.now record.now.end) out.new result }
+{
+    put_path_part(out, record.events.as_slice())?;
+    put_end_part(out, program, record.end)
+}
+
+#[tactic(auto, using(px_io::proofs::Putting::writing))]
+fn put_run<O: Sink>(
+    out: &mut O,
+    program: &Program,
+    parts: &[Part],
+    record: &Record,
+) -> Result<(), Stopped>
+    requires { InDomain parts.now record.now.words }
+    ensures { Puts O.written O.faults out.old (args_text parts.now record.now.words ++ (path_part record.now.events ++ end_part program.now record.now.end)) out.new result }
+{
+    put_args(out, parts, record.words.as_slice())?;
+    put_path_and_end(out, program, record)
+}
+
+#[tactic(auto, using(px_io::proofs::Putting::writing))]
+fn put_test<O: Sink>(
+    out: &mut O,
+    program: &Program,
+    parts: &[Part],
+    number: u64,
+    record: &Record,
+) -> Result<(), Stopped>
+    requires { InDomain parts.now record.now.words }
+    ensures { Puts O.written O.faults out.old (test_text program.now parts.now number record.now) out.new result }
+{
+    put_test_head(out, number)?;
+    put_run(out, program, parts, record)
+}
+
+fn put_tests<O: Sink>(
+    out: &mut O,
+    program: &Program,
+    parts: &[Part],
+    records: &[Record],
+) -> Result<(), Stopped>
+    requires { AllByRecursion (λ r. InDomain parts.now r.words) records.now }
+    ensures { Puts O.written O.faults out.old (tests_text program.now parts.now records.now (length records.now)) out.new result }
+{
+    for (number, record) in records.iter().enumerate() {
+        put_test(out, program, parts, number as u64, record)?;
+    }
+    Ok(())
+}
+
+#[tactic(auto, using(px_io::proofs::Putting::writing))]
+fn put_from_tests<O: Sink>(
+    out: &mut O,
+    program: &Program,
+    findings: &Findings,
+) -> Result<(), Stopped>
+    requires { AllByRecursion (λ r. InDomain findings.now.domain r.words) findings.now.records }
+    ensures { Puts O.written O.faults out.old (tests_text program.now findings.now.domain findings.now.records (length findings.now.records) ++ counts_text findings.now.records findings.now.refuted) out.new result }
+{
+    let records = findings.records.as_slice();
+    put_tests(out, program, findings.domain.parts(), records)?;
+    put_counts(out, records, findings.refuted)
+}
+
+#[tactic(auto, using(px_io::proofs::Putting::writing))]
+fn put_from_limits<O: Sink>(
+    out: &mut O,
+    program: &Program,
+    findings: &Findings,
+) -> Result<(), Stopped>
+    requires { AllByRecursion (λ r. InDomain findings.now.domain r.words) findings.now.records }
+    ensures { Puts O.written O.faults out.old (limits_text findings.now.limits ++ (tests_text program.now findings.now.domain findings.now.records (length findings.now.records) ++ counts_text findings.now.records findings.now.refuted)) out.new result }
+{
+    put_limits(out, findings.limits)?;
+    put_from_tests(out, program, findings)
+}
+
+#[tactic(auto, using(px_io::proofs::Putting::writing))]
+fn put_from_bounds<O: Sink>(
+    out: &mut O,
+    program: &Program,
+    findings: &Findings,
+) -> Result<(), Stopped>
+    requires { AllByRecursion (λ r. InDomain findings.now.domain r.words) findings.now.records }
+    ensures { Puts O.written O.faults out.old (bounds_text findings.now.bounds ++ (limits_text findings.now.limits ++ (tests_text program.now findings.now.domain findings.now.records (length findings.now.records) ++ counts_text findings.now.records findings.now.refuted))) out.new result }
+{
+    put_bounds(out, findings.bounds)?;
+    put_from_limits(out, program, findings)
+}
+
+#[tactic(auto, using(px_io::proofs::Putting::writing))]
+fn put_from_domain<O: Sink>(
+    out: &mut O,
+    program: &Program,
+    findings: &Findings,
+) -> Result<(), Stopped>
+    requires { AllByRecursion (λ r. InDomain findings.now.domain r.words) findings.now.records }
+    ensures { Puts O.written O.faults out.old (domain_text findings.now.domain ++ (bounds_text findings.now.bounds ++ (limits_text findings.now.limits ++ (tests_text program.now findings.now.domain findings.now.records (length findings.now.records) ++ counts_text findings.now.records findings.now.refuted)))) out.new result }
+{
+    put_domain(out, findings.domain.parts())?;
+    put_from_bounds(out, program, findings)
+}
+
+/// Writes the report of what was found. It takes no memory. `Stopped` comes only where a write failed.
+#[tactic(auto, using(px_io::proofs::Putting::writing), unfolding(crate::specs::Text::text_of))]
+pub fn write_report<O: Sink>(
+    program: &Program,
+    input: &Input,
+    findings: &Findings,
+    out: &mut O,
+) -> Result<(), Stopped>
+    requires { AllByRecursion (λ r. InDomain findings.now.domain r.words) findings.now.records }
+    ensures { Puts O.written O.faults out.old (text_of program.now input.now findings.now) out.new result }
+{
+    put_input(out, input)?;
+    put_from_domain(out, program, findings)
+}
