@@ -1,0 +1,9 @@
+pub mod Clause
+pub mod Fault
+pub mod Laws
+pub mod Marks
+pub mod Premises
+pub mod Propagation
+pub mod Resolution
+pub mod Store
+pub mod Verdict
