@@ -1,0 +1,163 @@
+-- What each status says, and the text that it writes.
+use Rattle.std.specs.Prelude.{◌≡◌, ℕ, ◌<◌, List, [], length, Option, Some, None, ◌⊎◌}
+use Rattle.std.specs.List.{AllByRecursion}
+use Rattle.px_domain.specs.Domain.{InDomain}
+use Rattle.px_io.specs.Counts.{Rose}
+use Rattle.px_io.specs.Files.{Files, file_of}
+use Rattle.px_io.specs.Puts.{GrewByFront, extended}
+use Rattle.px_tests.specs.declared.findings.Input.{Input}
+use Rattle.px_tests.specs.declared.findings.Input.TheVariants.{Raw}
+use Rattle.px_tests.specs.Text.{text_of}
+use Rattle.pex.specs.declared.answer.Answer.{Answer}
+use Rattle.pex.specs.declared.answer.Answer.TheVariants as answers
+use Rattle.pex.specs.declared.top.Reply.{Reply}
+use Rattle.pex.specs.declared.top.Reply.TheVariants as replies
+use Rattle.pex.specs.declared.top.Status.{Status}
+use Rattle.pex.specs.declared.top.Status.TheVariants as statuses
+use Rattle.pex.specs.Answers.{Explains}
+use Rattle.pex.specs.Lines.{body_line, domain_line, no_file_line, raw_locals_line, read_fault_line, too_long_line, unsupported_line, usage_line}
+use Rattle.pex.specs.Words.{Asks, misfit}
+
+-- What a call saw of its shelf: the files, where they are told, and the counts before and after it.
+pub record Fetching : Type 0 where
+  pub files : Option Files
+  pub misses : ℕ
+  pub misses_after : ℕ
+  pub faults : ℕ
+  pub faults_after : ℕ
+
+-- the bytes are the file's, where files are told
+abbrev pub IsContent : Option Files → List ℕ → List ℕ → Type 0
+IsContent None name bytes = Unit {0}
+IsContent (Some files) name bytes = file_of files name ≡ Some bytes
+
+-- the file isn't there, where files are told
+abbrev pub IsAbsent : Option Files → List ℕ → Type 0
+IsAbsent None name = Unit {0}
+IsAbsent (Some files) name = file_of files name ≡ None
+
+-- a told file has more than 16 MiB
+abbrev pub IsLong : Option (List ℕ) → Type 0
+IsLong None = ⊥
+IsLong (Some bytes) = 16777216 < length bytes
+
+abbrev pub IsTooLong : Option Files → List ℕ → Type 0
+IsTooLong None name = Unit {0}
+IsTooLong (Some files) name = IsLong (file_of files name)
+
+-- the text of an answer; want of memory writes nothing
+abbrev pub answer_text : Input → Answer → List ℕ
+answer_text input (answers.Found program f) = text_of program input f
+answer_text input (answers.Body kind at) = body_line kind at
+answer_text input answers.RawLocals = raw_locals_line
+answer_text input (answers.Domain at) = domain_line at
+answer_text input answers.Unsupported = unsupported_line
+answer_text input answers.Memory = []
+
+-- the status of an answer
+abbrev pub status_of : Answer → Status
+status_of (answers.Found program f) = statuses.Done
+status_of (answers.Body kind at) = statuses.Refused
+status_of answers.RawLocals = statuses.Refused
+status_of (answers.Domain at) = statuses.Refused
+status_of answers.Unsupported = statuses.Refused
+status_of answers.Memory = statuses.NoMemory
+
+-- each test of a report is one of its domain
+abbrev pub IsWritable : Answer → Type 0
+IsWritable (answers.Found program f) = AllByRecursion (λ r. InDomain f.domain r.words) f.records
+IsWritable (answers.Body kind at) = Unit {0}
+IsWritable answers.RawLocals = Unit {0}
+IsWritable (answers.Domain at) = Unit {0}
+IsWritable answers.Unsupported = Unit {0}
+IsWritable answers.Memory = Unit {0}
+
+-- the text of a reply; want of memory writes nothing
+abbrev pub reply_text : Reply → List ℕ
+reply_text (replies.Misfit place) = usage_line place
+reply_text (replies.NoFile name) = no_file_line name.now
+reply_text replies.TooLong = too_long_line
+reply_text (replies.ReadFault name) = read_fault_line name.now
+reply_text (replies.Answered input answer) = answer_text input answer
+reply_text replies.NoMemory = []
+
+-- the status of a reply
+abbrev pub reply_status : Reply → Status
+reply_status (replies.Misfit place) = statuses.Usage
+reply_status (replies.NoFile name) = statuses.NoFile
+reply_status replies.TooLong = statuses.Refused
+reply_status (replies.ReadFault name) = statuses.ReadFault
+reply_status (replies.Answered input answer) = status_of answer
+reply_status replies.NoMemory = statuses.NoMemory
+
+-- a reply that holds a report has one whose tests are in its domain
+abbrev pub IsSayable : Reply → Type 0
+IsSayable (replies.Misfit place) = Unit {0}
+IsSayable (replies.NoFile name) = Unit {0}
+IsSayable replies.TooLong = Unit {0}
+IsSayable (replies.ReadFault name) = Unit {0}
+IsSayable (replies.Answered input answer) = IsWritable answer
+IsSayable replies.NoMemory = Unit {0}
+
+-- The words ask for a file, and its bytes give an answer of this status, whose text this is.
+pub record Answers (words : List (List ℕ)) (seen : Fetching) (status : Status) (text : List ℕ) : Type 0 where
+  pub asks : Asks words
+  pub bytes : List ℕ
+  pub content : IsContent seen.files asks.file bytes
+  pub answer : Answer
+  pub explained : Explains bytes asks.places asks.text answer
+  pub status_is : status ≡ status_of answer
+  pub text_is : text ≡ answer_text (Raw asks.params) answer
+
+pub record Misses (words : List (List ℕ)) (seen : Fetching) (text : List ℕ) : Type 0 where
+  pub asks : Asks words
+  pub absent : IsAbsent seen.files asks.file
+  pub rose : Rose seen.misses seen.misses_after
+  pub text_is : text ≡ no_file_line asks.file
+
+pub record Overruns (words : List (List ℕ)) (seen : Fetching) (text : List ℕ) : Type 0 where
+  pub asks : Asks words
+  pub too_long : IsTooLong seen.files asks.file
+  pub rose : Rose seen.misses seen.misses_after
+  pub text_is : text ≡ too_long_line
+
+pub record Breaks (words : List (List ℕ)) (seen : Fetching) (text : List ℕ) : Type 0 where
+  pub asks : Asks words
+  pub rose : Rose seen.faults seen.faults_after
+  pub text_is : text ≡ read_fault_line asks.file
+
+pub record Misfits (words : List (List ℕ)) (text : List ℕ) : Type 0 where
+  pub place : ℕ
+  pub first : misfit words ≡ Some place
+  pub text_is : text ≡ usage_line place
+
+-- THE PROMISE: when a status comes, and the text that it writes.
+-- Done: the words are of the form and the text is that of a sound report of the file's program under the domain of the words.
+abbrev pub Says : List (List ℕ) → Fetching → Status → List ℕ → Type 0
+Says words seen statuses.Done text = Answers words seen statuses.Done text
+Says words seen statuses.Usage text = Misfits words text
+Says words seen statuses.Refused text = Answers words seen statuses.Refused text ⊎ Overruns words seen text
+Says words seen statuses.NoFile text = Misses words seen text
+Says words seen statuses.ReadFault text = Breaks words seen text
+Says words seen statuses.WriteFault text = ⊥
+Says words seen statuses.NoMemory text = text ≡ []
+
+-- a text that some status says
+pub record SaysSome (words : List (List ℕ)) (seen : Fetching) (text : List ℕ) : Type 0 where
+  pub status : Status
+  pub says : Says words seen status text
+
+abbrev pub fetching : Option Files → ℕ → ℕ → ℕ → ℕ → Fetching
+fetching files misses misses_after faults faults_after = record { files = files; misses = misses; misses_after = misses_after; faults = faults; faults_after = faults_after }
+
+-- the text that the status says was written, where what is written is told
+pub record Wrote (words : List (List ℕ)) (seen : Fetching) (status : Status) (old new : Option (List ℕ)) : Type 0 where
+  pub text : List ℕ
+  pub says : Says words seen status text
+  pub written : new ≡ extended old text
+
+-- a proper front of a text that some status says was written
+pub record WroteFront (words : List (List ℕ)) (seen : Fetching) (old new : Option (List ℕ)) : Type 0 where
+  pub text : List ℕ
+  pub says : SaysSome words seen text
+  pub front : GrewByFront old text new
