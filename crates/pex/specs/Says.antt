@@ -99,6 +99,16 @@ IsSayable (replies.ReadFault name) = Unit {0}
 IsSayable (replies.Answered input answer) = IsWritable answer
 IsSayable replies.NoMemory = Unit {0}
 
+-- the exit status of the program
+abbrev pub exit_status : Status → ℕ
+exit_status statuses.Done = 0
+exit_status statuses.Usage = 3
+exit_status statuses.Refused = 4
+exit_status statuses.NoFile = 5
+exit_status statuses.ReadFault = 6
+exit_status statuses.WriteFault = 7
+exit_status statuses.NoMemory = 8
+
 -- The words ask for a file, and its bytes give an answer of this status, whose text this is.
 pub record Answers (words : List (List ℕ)) (seen : Fetching) (status : Status) (text : List ℕ) : Type 0 where
   pub asks : Asks words

@@ -3,7 +3,7 @@ ghost use Rattle.std.specs.Prelude.{◌≡◌, ◌≢◌, ◌<◌, ◌≤◌, �
 ghost use Rattle.std.specs.List.{AllByRecursion};
 ghost use Rattle.px_domain.specs.Place.{IsInteger};
 ghost use Rattle.px_io.specs.Counts.{Rose};
-ghost use Rattle.pex.specs.Says.{Fetching, IsContent, IsSayable, Says, Wrote, WroteFront, fetching, reply_status, reply_text, status_of};
+ghost use Rattle.pex.specs.Says.{Fetching, IsContent, IsSayable, Says, Wrote, WroteFront, exit_status, fetching, reply_status, reply_text, status_of};
 ghost use Rattle.pex.specs.Words.{AsksFor, misfit};
 
 use crate::answer::{Answer, answer_of};
@@ -34,7 +34,9 @@ pub enum Status {
 
 impl Status {
     /// The exit status of the program.
-    pub fn number(self) -> u8 {
+    pub fn number(self) -> u8
+        ensures { result ≡ exit_status self }
+    {
         match self {
             Status::Done => 0,
             Status::Usage => 3,
