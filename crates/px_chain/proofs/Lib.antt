@@ -1,4 +1,8 @@
+pub mod Closures
+pub mod Conflicts
 pub mod Deriving
+pub mod Learning
+pub mod Logs
 pub mod Marking
 pub mod Members
 pub mod Refuting

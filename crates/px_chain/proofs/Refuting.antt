@@ -1,18 +1,22 @@
 -- Chains one after another: what the first that fails makes of all, and the last claim.
-use Rattle.std.proofs.Common.{◌≡◌, ◌≢◌, ℕ, zero, suc, ◌+◌, ◌-◌, ◌≤◌, subst, take-append-drop, drop-cons, length-take, take_all, ◌<◌, true, List, [], ◌∷◌, ◌++◌, length, get_or, take, drop, Option, Some, None, refl, ap, ap₂, sym, ◌∙◌, arith}
+use Rattle.std.proofs.Common.{Ok, Err, ◌≡◌, ◌≢◌, ℕ, zero, suc, ◌+◌, ◌-◌, ◌≤◌, subst, take-append-drop, drop-cons, length-take, take_all, ◌<◌, true, List, [], ◌∷◌, ◌++◌, length, get_or, take, drop, Option, Some, None, refl, ap, ap₂, sym, ◌∙◌, arith}
 use Rattle.std.proofs.lemmas.Bool.{cond-true}
 use Rattle.std.proofs.lemmas.List.{take_more}
 use Rattle.std.proofs.lemmas.Slice.Eq.{bytes_eq-Decides}
+use Rattle.std.specs.Prelude.{option_map, IfErr, OnErr, Result}
 use Rattle.std.specs.List.{slice_get}
 use Rattle.std.specs.Str.{bytes_eq}
 use Rattle.px_chain.specs.declared.chain.Chain.{Chain}
+use Rattle.px_chain.specs.declared.chain.ChainFault.{ChainFault}
+use Rattle.px_chain.specs.declared.chain.ChainFault.TheVariants as chain_faults
+use Rattle.px_chain.specs.declared.chain.Refuted.{Refuted}
 use Rattle.px_chain.specs.declared.chain.Why.{Why}
 use Rattle.px_chain.specs.declared.chain.Why.TheVariants as whys
 use Rattle.px_chain.specs.declared.fault.Fault.TheVariants as faults
 use Rattle.px_chain.specs.declared.fault.Fault.{Fault}
 use Rattle.px_chain.specs.Clause.{clause_of}
 use Rattle.px_chain.specs.Fault.{IsBlamed, blamed}
-use Rattle.px_chain.specs.Verdict.{Blames}
+use Rattle.px_chain.specs.Verdict.{Blames, last_claim}
 use Rattle.px_chain.specs.Resolution.{Derives, Refutes, Fault as StepFault, fault_in, fault_of, fault_or, first_fault, last_fault}
 
 -- each chain resolves clauses and earlier claims to its claim
@@ -82,13 +86,13 @@ no_refutation k clauses (chain ∷ next ∷ chains) fault e is =
     let later = fault_later k (fault_of clauses chain) (first_fault (k + 1) (clauses ++ clause_of chain.claim ∷ []) (next ∷ chains)) _ (no_fault clauses chain is.0) refl in
     no_refutation (k + 1) (clauses ++ clause_of chain.claim ∷ []) (next ∷ chains) fault (sym later ∙ e) is.1
 
--- the chains up to one, and that one
-split_at : (chains : List Chain) (i : ℕ) (chain : Chain) → i < length chains → chain ≡ get_or chains i chain → chains ≡ take i chains ++ chain ∷ drop (suc i) chains
-split_at chains i chain lt is =
-    sym (take-append-drop i chains) ∙ ap (λ back. take i chains ++ back) (drop-cons chains i chain lt ∙ ap (λ c. c ∷ drop (suc i) chains) (sym is))
+-- a list up to an element, and that one
+pub split_at : {X : Type 0} (xs : List X) (i : ℕ) (x : X) → i < length xs → x ≡ get_or xs i x → xs ≡ take i xs ++ x ∷ drop (suc i) xs
+split_at xs i x lt is =
+    sym (take-append-drop i xs) ∙ ap (λ back. take i xs ++ back) (drop-cons xs i x lt ∙ ap (λ y. y ∷ drop (suc i) xs) (sym is))
 
-one_more : (chains : List Chain) (i : ℕ) (chain : Chain) → i < length chains → chain ≡ get_or chains i chain → take (i + 1) chains ≡ take i chains ++ chain ∷ []
-one_more chains i chain lt is = take_more chains i chain lt ∙ ap (λ c. take i chains ++ c ∷ []) (sym is)
+pub one_more : {X : Type 0} (xs : List X) (i : ℕ) (x : X) → i < length xs → x ≡ get_or xs i x → take (i + 1) xs ≡ take i xs ++ x ∷ []
+one_more xs i x lt is = take_more xs i x lt ∙ ap (λ y. take i xs ++ y ∷ []) (sym is)
 
 -- how far the chains were accepted
 pub record AreAccepted (clauses : List (List ℕ)) (chains : List Chain) (i : ℕ) (premises : List (List ℕ)) : Type 0 where
@@ -122,25 +126,52 @@ up_to_last (c ∷ []) zero last size e = let same : c ≡ last = cc in ap (λ d.
 up_to_last (c ∷ d ∷ chains) zero last size e = absurd (omega arith)
 up_to_last (c ∷ chains) (suc n) last size e = ap (λ back. c ∷ back) (up_to_last chains n last (omega arith) e)
 
-module _ (clauses : List (List ℕ)) (chains : List Chain) (i : ℕ) (premises : List (List ℕ)) (so_far : AreAccepted clauses chains i premises) (whole : length chains ≤ i)
-    (last : Chain) (ends : slice_get chains (length chains - 1) ≡ Some last) where
-  all_derive : AllDerive clauses chains
-  all_derive = subst (AllDerive clauses) (take_all i chains whole) so_far.derive
-
+-- chains that all derive their claims, up to the last
+module _ (clauses : List (List ℕ)) (chains : List Chain) (derive : AllDerive clauses chains) (last : Chain) (ends : slice_get chains (length chains - 1) ≡ Some last) where
   size : length chains ≡ suc (length chains - 1)
   size = elim chains as (λ cs. slice_get cs (length cs - 1) ≡ Some last → length cs ≡ suc (length cs - 1)) [ [] ↦ λ e. absurd (cc) | ◌∷◌ c cs ↦ λ e. omega arith ] ends
 
   split : chains ≡ take (length chains - 1) chains ++ last ∷ []
   split = up_to_last chains (length chains - 1) last size ends
 
-  -- where all chains are accepted, an empty last claim refutes
-  pub AreAccepted-refutes : last.claim ≡ [] → Refutes clauses chains
-  AreAccepted-refutes empty =
-      subst (Refutes clauses) (sym split) (Refutes-last clauses (take (length chains - 1) chains) last (subst (AllDerive clauses) split all_derive) empty)
+  refutes_by : last.claim ≡ [] → Refutes clauses chains
+  refutes_by empty =
+      subst (Refutes clauses) (sym split) (Refutes-last clauses (take (length chains - 1) chains) last (subst (AllDerive clauses) split derive) empty)
 
-  -- and one that isn't empty is the last chain's fault
-  pub AreAccepted-not_empty : (step : ℕ) → step ≡ length chains - 1 → last.claim ≢ [] → Blames clauses chains (blamed step (faults.Chain whys.NotEmpty))
-  AreAccepted-not_empty step at ne =
-      let fault = first_fault-last 0 step clauses (take (length chains - 1) chains) last (omega (arith, length-take (length chains - 1) chains)) (subst (AllDerive clauses) split all_derive) ne in
-      let e : first_fault 0 clauses chains ≡ Some (step, whys.NotEmpty) = ap (first_fault 0 clauses) split ∙ fault in
-      (e, no_refutation 0 clauses chains (step, whys.NotEmpty) e)
+  fault_by : last.claim ≢ [] → first_fault 0 clauses chains ≡ Some (length chains - 1, whys.NotEmpty)
+  fault_by ne =
+      ap (first_fault 0 clauses) split ∙ first_fault-last 0 (length chains - 1) clauses (take (length chains - 1) chains) last (omega (arith, length-take (length chains - 1) chains)) (subst (AllDerive clauses) split derive) ne
+
+claim_at : (o : Option Chain) (claim : List ℕ) → option_map (λ (chain : Chain). chain.claim) o ≡ Some claim → (last : Chain) × (o ≡ Some last) × (last.claim ≡ claim)
+claim_at None claim e = absurd (cc)
+claim_at (Some last) claim e = (last, refl, cc)
+
+-- where all chains are accepted, an empty last claim refutes
+pub AreAccepted-refutes : (clauses : List (List ℕ)) (chains : List Chain) (i : ℕ) (premises : List (List ℕ)) → AreAccepted clauses chains i premises → length chains ≤ i
+    → last_claim chains ≡ Some [] → Refutes clauses chains
+AreAccepted-refutes clauses chains i premises so_far whole empty =
+    let w = claim_at (slice_get chains (length chains - 1)) [] empty in
+    refutes_by clauses chains (subst (AllDerive clauses) (take_all i chains whole) so_far.derive) w.0 w.1 w.2
+
+there_is : (chains : List Chain) (n : ℕ) → n < length chains → slice_get chains n ≡ None → ⊥
+there_is [] n lt e = omega arith
+there_is (c ∷ chains) zero lt e = cc
+there_is (c ∷ chains) (suc n) lt e = there_is chains n (omega arith) e
+
+not_empty : (clauses : List (List ℕ)) (chains : List Chain) → AllDerive clauses chains → (found : Option Chain) → slice_get chains (length chains - 1) ≡ found
+    → option_map (λ (chain : Chain). chain.claim) found ≢ Some [] → first_fault 0 clauses chains ≡ Some (length chains - 1, whys.NotEmpty)
+not_empty clauses [] derive found e ne = refl
+not_empty clauses (c ∷ chains) derive None e ne = absurd (there_is (c ∷ chains) (length (c ∷ chains) - 1) (omega arith) e)
+not_empty clauses (c ∷ chains) derive (Some last) e ne = fault_by clauses (c ∷ chains) derive last e (λ empty. ne (ap Some empty))
+
+-- and one that isn't empty is the last chain's fault
+pub AreAccepted-not_empty : (clauses : List (List ℕ)) (chains : List Chain) (i : ℕ) (premises : List (List ℕ)) → AreAccepted clauses chains i premises → length chains ≤ i
+    → last_claim chains ≢ Some [] → Blames clauses chains (chain_faults.BadStep (length chains - 1) whys.NotEmpty)
+AreAccepted-not_empty clauses chains i premises so_far whole ne =
+    let e = not_empty clauses chains (subst (AllDerive clauses) (take_all i chains whole) so_far.derive) (slice_get chains (length chains - 1)) refl ne in
+    (e, no_refutation 0 clauses chains (length chains - 1, whys.NotEmpty) e)
+
+-- a fault that is told
+pub blamed_by : (P : ChainFault → Type 0) (Q : Type 0) (r : Result Refuted ChainFault) (told : ChainFault) → IfErr r (λ fault. fault ≡ told) → OnErr r Q → (Q → P told) → IfErr r P
+blamed_by P Q (Ok x) told is ne f = tt
+blamed_by P Q (Err fault) told is ne f = subst P (sym is) (f ne)

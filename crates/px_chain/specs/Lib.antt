@@ -1,4 +1,5 @@
 pub mod Clause
+pub mod Closure
 pub mod Fault
 pub mod Laws
 pub mod Marks

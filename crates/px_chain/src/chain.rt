@@ -69,6 +69,17 @@ pub enum LogFault {
     BadEntry { entry: u32 },
 }
 
+impl From<AllocError> for LogFault {
+    ghost use Rattle.std.specs.Prelude.{◌≡◌};
+    ghost use Rattle.px_chain.specs.declared.chain.LogFault.TheVariants.{Memory};
+
+    ghost from_gives = { λ _ fault. fault ≡ Memory };
+
+    fn from(_: AllocError) -> LogFault {
+        LogFault::Memory
+    }
+}
+
 /// The formula was refuted: no assignment meets all its clauses.
 #[derive(Clone, Copy, Debug, PartialEq, Eq)]
 pub struct Refuted;

@@ -1,9 +1,9 @@
 // The check of refutations.
-ghost use Rattle.std.specs.Prelude.{◌≡◌, ◌≤◌, ◌<◌, ◌^◌, [], ◌∷◌, ◌++◌, ℕ, List, Ok, length, true, slice_get, OnOk, IfOk, IfErr};
+ghost use Rattle.std.specs.Prelude.{◌≡◌, ◌≢◌, ◌-◌, Some, ◌≤◌, ◌<◌, ◌^◌, [], ◌∷◌, ◌++◌, ℕ, List, Ok, length, true, slice_get, OnErr, OnOk, IfOk, IfErr};
 ghost use Rattle.px_chain.specs.Clause.{Assignment, MeetsAll, IsOver, clause_of};
 ghost use Rattle.px_chain.specs.Fault.{IsBlamed, IsFaultOf, blamed};
 ghost use Rattle.px_chain.specs.Resolution.{Derives, Refutes, derived, fault_of, step_with};
-ghost use Rattle.px_chain.specs.Verdict.{Blames};
+ghost use Rattle.px_chain.specs.Verdict.{Blames, last_claim};
 
 use crate::chain::{Chain, ChainFault, Chains, Lit, Refuted, Why};
 use crate::cnf::{Cnf, normalise};
@@ -29,11 +29,27 @@ pub fn check(alloc: Global, cnf: &Cnf, chains: &Chains) -> Result<Refuted, Chain
             Err(fault) => return Err(blame(step as u32, fault)),
         }
     }
-    match chains.last() {
-        Some(last) if last.claim.is_empty() => Ok(Refuted),
-        Some(_) => Err(blame(chains.len() as u32 - 1, Fault::Chain(Why::NotEmpty))),
-        None => Err(blame(0, Fault::Chain(Why::NotEmpty))),
+    conclude(chains)
+}
+
+// What the last claim says, where every chain comes to its claim.
+fn conclude(chains: &[Chain]) -> Result<Refuted, ChainFault>
+    requires { length chains.now < 2 ^ 32 }
+    ensures empty { OnOk result (last_claim chains.now ≡ Some []) }
+    ensures fault { IfErr result (λ fault. fault ≡ ChainFault.BadStep (length chains.now - 1) Why.NotEmpty) }
+    ensures not_empty { OnErr result (last_claim chains.now ≢ Some []) }
+{
+    let mut step = 0;
+    if let Some(last) = chains.last() {
+        if last.claim.is_empty() {
+            return Ok(Refuted);
+        }
+        step = chains.len() as u32 - 1;
     }
+    Err(ChainFault::BadStep {
+        step,
+        why: Why::NotEmpty,
+    })
 }
 
 // A fault with the number of its chain.

@@ -55,7 +55,8 @@ impl Cnf {
 
     /// The number of clauses.
     pub fn clauses(&self) -> u64
-        ensures { result ≡ length self.now.clauses }
+        ensures count { result ≡ length self.now.clauses }
+        ensures few { result < 2 ^ 63 }
     {
         self.ends.len() as u64
     }

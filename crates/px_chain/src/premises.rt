@@ -1,5 +1,5 @@
 // A formula's clauses with those that were derived from them.
-ghost use Rattle.std.specs.Prelude.{◌≡◌, ◌≤◌, ◌<◌, ◌^◌, [], ◌∷◌, ◌++◌, length, slice_get, OnOk, IfSome};
+ghost use Rattle.std.specs.Prelude.{◌≡◌, ◌≤◌, ◌<◌, ◌^◌, [], ◌∷◌, ◌++◌, length, slice_get, Some, OnErr, OnOk, IfSome};
 ghost use Rattle.std.specs.Option.{option_copied};
 ghost use Rattle.px_chain.specs.Clause.{Ascends, IsFormula, IsOver, clause_of};
 
@@ -47,21 +47,39 @@ impl<'a> Premises<'a> {
         self.formula.vars()
     }
 
+    /// The number of clauses.
+    pub fn len(&self) -> u64
+        ensures { result ≡ length self.now.clauses }
+    {
+        self.formula.clauses() + self.derived.clauses()
+    }
+
+    /// The clause of a number below the number of clauses.
+    pub fn clause(&self, number: u64) -> &[Lit]
+        requires { number < length self.now.clauses }
+        ensures clause { slice_get self.now.clauses number ≡ Some result.now }
+        ensures ascends { Ascends result.now }
+        ensures over { IsOver self.now.vars result.now }
+    {
+        let own = self.formula.clauses();
+        if number < own {
+            self.formula.clause(number)
+        } else {
+            self.derived.clause(number - own)
+        }
+    }
+
     /// The clause of a number, if there is one.
     pub fn get(&self, number: u64) -> Option<&[Lit]>
         ensures clause { option_copied result ≡ slice_get self.now.clauses number }
         ensures ascends { IfSome result (λ clause. Ascends clause.now) }
         ensures over { IfSome result (λ clause. IsOver self.now.vars clause.now) }
     {
-        let own = self.formula.clauses();
-        if number < own {
-            return Some(self.formula.clause(number));
+        if number < self.len() {
+            Some(self.clause(number))
+        } else {
+            None
         }
-        let at = number - own;
-        if at < self.derived.clauses() {
-            return Some(self.derived.clause(at));
-        }
-        None
     }
 
     /// Adds the clause that has these literals, each over the formula's variables. Where memory is wanted nothing changes.
@@ -69,6 +87,7 @@ impl<'a> Premises<'a> {
         requires { IsOver self.old.vars clause.now }
         ensures vars { self.new.vars ≡ self.old.vars }
         ensures ok { OnOk result (self.new.clauses ≡ self.old.clauses ++ clause_of clause.now ∷ []) }
+        ensures err { OnErr result (self.new.clauses ≡ self.old.clauses) }
     {
         self.derived.add(clause)
     }

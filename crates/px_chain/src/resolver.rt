@@ -83,8 +83,8 @@ impl Resolver {
         None
     }
 
-    // Whether the clause has a literal.
-    fn has(&self, l: Lit) -> bool
+    /// Whether the clause has a literal.
+    pub fn has(&self, l: Lit) -> bool
         ensures has { result ≡ has self.now.clause l }
         ensures within { IsTrue result → l < 2 * self.now.vars }
     {

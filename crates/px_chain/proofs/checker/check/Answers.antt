@@ -1,9 +1,11 @@
-use Rattle.std.proofs.Common.{◌≡◌, ◌∙◌, [], refl, sym, arith, rules}
+use Rattle.std.proofs.Common.{◌≡◌, ◌≢◌, ◌∙◌, [], Some, sym, arith, rules}
+use Rattle.std.proofs.lemmas.Result.{on_ok_weaker}
 use Rattle.px_chain.specs.Resolution.{Refutes}
-use Rattle.px_chain.proofs.Refuting.{AreAccepted-none, AreAccepted-more, AreAccepted-fault, AreAccepted-refutes, AreAccepted-not_empty}
+use Rattle.px_chain.specs.Verdict.{Blames, last_claim}
+use Rattle.px_chain.proofs.Refuting.{AreAccepted-none, AreAccepted-more, AreAccepted-fault, AreAccepted-refutes, AreAccepted-not_empty, blamed_by}
 use Rattle.px_chain.proofs.Soundness.{Refutes-unmet}
 use Rattle.px_chain.proofs.checker.check.Goals as goal
-use Rattle.px_chain.proofs.checker.check.Goals.{In-Some}
+use Rattle.px_chain.proofs.checker.check.Goals.{After-conclude}
 
 pub loop-step-init : goal.loop-step-init
 loop-step-init c = (AreAccepted-none _ _ _ c.new-premises.ensures.clauses, search rules, search rules)
@@ -22,19 +24,20 @@ loop-step-preserved c = (
   c.in-Ok.ensures.empty,
 )
 
-refutes : (c : In-Some) → c.in-Some.last.now.claim ≡ [] → Refutes c.args.cnf.now.clauses c.args.chains.now
+refutes : (c : After-conclude) → last_claim c.as_slice-chains.result.now ≡ Some [] → Refutes c.args.cnf.now.clauses c.args.chains.now
 refutes c empty =
     rw (← c.as_slice-chains.ensures)
-    (AreAccepted-refutes c.args.cnf.now.clauses c.as_slice-chains.result.now c.loop-step.step c.loop-step.premises.clauses c.loop-step.invariant.0 (omega arith) c.in-Some.last.now (sym c.in-Some.ensures.value) empty)
+    (AreAccepted-refutes c.args.cnf.now.clauses c.as_slice-chains.result.now c.loop-step.step c.loop-step.premises.clauses c.loop-step.invariant.0 (omega arith) empty)
 
-pub returns-in-Some-clause-refutes : goal.returns-in-Some-clause-refutes
-returns-in-Some-clause-refutes c = refutes (goal.at.returns-in-Some-clause-refutes c).In-Some (c.if-is_empty.ensures.0 refl)
+pub returns-clause-refutes : goal.returns-clause-refutes
+returns-clause-refutes c = on_ok_weaker c.conclude.result (refutes (goal.at.returns-clause-refutes c).After-conclude) c.conclude.ensures.empty
 
-pub returns-in-Some-clause-unmet : goal.returns-in-Some-clause-unmet
-returns-in-Some-clause-unmet c = λ a. Refutes-unmet a _ _ (refutes (goal.at.returns-in-Some-clause-unmet c).In-Some (c.if-is_empty.ensures.0 refl))
+pub returns-clause-unmet : goal.returns-clause-unmet
+returns-clause-unmet c =
+    on_ok_weaker c.conclude.result (λ empty a. Refutes-unmet a c.args.cnf.now.clauses c.args.chains.now (refutes (goal.at.returns-clause-unmet c).After-conclude empty)) c.conclude.ensures.empty
 
-pub returns-in-Some-2-clause-bad_step : goal.returns-in-Some-2-clause-bad_step
-returns-in-Some-2-clause-bad_step c =
-    rw (c.blame-in-Some-2.ensures, ← c.as_slice-chains.ensures)
-    (AreAccepted-not_empty c.args.cnf.now.clauses c.as_slice-chains.result.now c.loop-step.step c.loop-step.premises.clauses c.loop-step.invariant.0 (omega arith) c.in-Some.last.now (sym c.in-Some.ensures.value)
-    _ refl (λ e. let no = c.if-is_empty.ensures.1 e in cc))
+pub returns-clause-bad_step : goal.returns-clause-bad_step
+returns-clause-bad_step c =
+    rw (← c.as_slice-chains.ensures)
+    (blamed_by (Blames c.args.cnf.now.clauses c.as_slice-chains.result.now) (last_claim c.as_slice-chains.result.now ≢ Some []) c.conclude.result _ c.conclude.ensures.fault c.conclude.ensures.not_empty
+    (AreAccepted-not_empty c.args.cnf.now.clauses c.as_slice-chains.result.now c.loop-step.step c.loop-step.premises.clauses c.loop-step.invariant.0 (omega arith)))
