@@ -1,0 +1,5 @@
+pub mod Depth
+pub mod Many
+pub mod Owed
+pub mod Pile
+pub mod Inner

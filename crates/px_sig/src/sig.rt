@@ -1,0 +1,58 @@
+// Types and signatures.
+use sqlite_items::{Boxed, Items};
+
+/// An integer type: Partition I, 8.2.2.
+#[derive(Clone, Copy, Debug, PartialEq, Eq)]
+pub enum Integer {
+    Bool,
+    Char,
+    I1,
+    U1,
+    I2,
+    U2,
+    I4,
+    U4,
+    I8,
+    U8,
+    /// A native integer.
+    N,
+    UN,
+}
+
+/// A type as a signature spells it: Partition II, 23.2.12.
+#[derive(Debug)]
+pub enum SigType {
+    Void,
+    Int(Integer),
+    Str,
+    Object,
+    /// A class by its token: the number of its table times 2^24, and its row.
+    Class(u32),
+    /// A one-dimensional array of elements of a type, with indexes from 0.
+    Array(Boxed<SigType>),
+    /// A type of any other form.
+    Other,
+}
+
+impl Drop for SigType {
+    // A loop, since arrays may lie in each other as deep as a signature is long.
+    fn drop(mut self) {
+        loop {
+            match self {
+                SigType::Array(element) => self = element.into_inner(),
+                SigType::Int(_) | SigType::Class(_) => return,
+                SigType::Void | SigType::Str | SigType::Object | SigType::Other => return,
+            }
+        }
+    }
+}
+
+/// The signature of a method: Partition II, 23.2.1 to 23.2.3. `has_this` says that it has a receiver, which isn't among its parameters.
+/// `plain` is false where it has type parameters or a variable list of arguments, or states the receiver's type.
+#[derive(Debug, Drop)]
+pub struct MethodSig {
+    pub has_this: bool,
+    pub plain: bool,
+    pub ret: SigType,
+    pub params: Items<SigType>,
+}
