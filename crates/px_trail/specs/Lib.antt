@@ -1,0 +1,4 @@
+pub mod Assignment
+pub mod Outcome
+pub mod Propagation
+pub mod Trail
