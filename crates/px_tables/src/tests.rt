@@ -267,7 +267,8 @@ fn refuses_fronts(rt: HostRuntime) {
     }
 }
 
-// What may be changed: the version's text may be shorter, row 0 may have any tag, and the names of streams may be others.
+// What may be changed: the size of the version's text within its padding, flags, the version of the tables, the mask of sorted ones, a longer
+// stream, and indexes that name no row: row 0 of another table, and lists that begin at 0 or behind the last row.
 const HARMLESS: [Damage; 8] = [
     &[(12, 1)],
     &[(20, 1)],

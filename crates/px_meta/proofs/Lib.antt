@@ -1,0 +1,13 @@
+pub mod Alike
+pub mod Behind
+pub mod Blame
+pub mod Blobs
+pub mod Deriving
+pub mod Lengths
+pub mod Naming
+pub mod Nearest
+pub mod Rows
+pub mod Saying
+pub mod Texts
+pub mod Verdicts
+pub mod Walking

@@ -1,0 +1,16 @@
+use Rattle.std.proofs.Common.{arith}
+use Rattle.px_meta.specs.Faults.{Method}
+use Rattle.px_meta.specs.Rows.{methods}
+use Rattle.px_meta.proofs.Blame.{method_unnamed, method_unsigned, token_blamed}
+use Rattle.px_meta.proofs.members.read_method.Goals as goal
+
+pub returns-in_default-clause-fault : goal.returns-in_default-clause-fault
+returns-in_default-clause-fault c =
+    let row = c.args.row in
+    token_blamed c.args.tables.now methods row c.at.result (λ e. omega arith) c.at.ensures (Method row c.requires.row (method_unnamed _ row c.cell_of.result c.cell_of.ensures c.in_default.ensures))
+
+pub returns-in_default-2-clause-fault : goal.returns-in_default-2-clause-fault
+returns-in_default-2-clause-fault c =
+    let row = c.args.row in
+    token_blamed c.args.tables.now methods row c.at-in_default-2.result (λ e. omega arith) c.at-in_default-2.ensures
+    (Method row c.requires.row (method_unsigned _ row c.cell_of-2.result c.in_ok-sig.field-0 c.cell_of-2.ensures c.in_ok-sig.ensures.sig c.in_default-2.is))

@@ -1,0 +1,6 @@
+use Rattle.px_meta.specs.Members.{IsMethod}
+use Rattle.px_meta.proofs.Rows.{AreFirst}
+use Rattle.px_meta.proofs.members.read_methods.Given as goal
+
+abbrev pub invariant-loop-n : goal.invariant-loop-n
+invariant-loop-n l = AreFirst IsMethod l.tables l.n l.methods.items

@@ -1,0 +1,10 @@
+pub mod Chains
+pub mod Faults
+pub mod Impls
+pub mod Members
+pub mod Overriding
+pub mod Parts
+pub mod Resolved
+pub mod Rows
+pub mod Tokens
+pub mod Walks
