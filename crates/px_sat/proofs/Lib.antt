@@ -1,0 +1,10 @@
+pub mod Answering
+pub mod Counting
+pub mod Descents
+pub mod Entries
+pub mod Opening
+pub mod Orders
+pub mod Settling
+pub mod Steps
+pub mod Tracing
+pub mod Turns
