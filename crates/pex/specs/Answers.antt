@@ -1,21 +1,32 @@
 -- What the bytes of a file and the text of a domain give, before anything is written.
-use Rattle.std.specs.Prelude.{◌≡◌, ◌≢◌, ℕ, ◌<◌, List, Some, Ok, Err, ◌⊎◌}
+use Rattle.std.specs.Prelude.{◌≡◌, ◌≢◌, ℕ, ◌<◌, ◌≤◌, List, length, take, drop, Option, Some, None, Ok, Err, ◌⊎◌}
 use Rattle.px_code.specs.declared.body.Body.{Body}
+use Rattle.px_code.specs.declared.body.BodyFault.TheVariants as body_faults
 use Rattle.px_code.specs.declared.body.BodyKind.TheVariants.{Later}
 use Rattle.px_code.specs.Body.{body_of}
 use Rattle.px_domain.specs.declared.domain.Part.{Part}
-use Rattle.px_domain.specs.Domain.{size_of}
+use Rattle.px_domain.specs.Domain.{params_of, size_of}
 use Rattle.px_domain.specs.Grammar.{domain_of}
+use Rattle.px_link.specs.declared.fault.LinkFault.TheVariants as faults
+use Rattle.px_link.specs.Link.{Blames, Reads}
 use Rattle.px_link.specs.Raw.{ReadsRaw}
+use Rattle.px_meta.specs.Faults.{IsFaultless, IsFirstFault}
+use Rattle.px_pe.specs.Image as pe
+use Rattle.px_pe.specs.Image.{image_of}
 use Rattle.px_program.specs.declared.program.Place.{Place}
 use Rattle.px_program.specs.declared.program.Program.{Program}
 use Rattle.px_program.specs.declared.record.Bounds.{Bounds}
 use Rattle.px_program.specs.declared.record.Limits.{Limits}
+use Rattle.px_tables.specs.Metadata.{View, metadata_of}
 use Rattle.px_tests.specs.declared.findings.Findings.{Findings}
 use Rattle.px_tests.specs.Sound.{Sound}
 use Rattle.px_verify.specs.Simple.{fault_of}
 use Rattle.pex.specs.declared.answer.Answer.{Answer}
 use Rattle.pex.specs.declared.answer.Answer.TheVariants as answers
+use Rattle.pex.specs.declared.answer.Refusal.{Refusal}
+use Rattle.pex.specs.declared.answer.Refusal.TheVariants as refusals
+use Rattle.pex.specs.declared.words.Target.{Target}
+use Rattle.pex.specs.declared.words.Target.TheVariants as targets
 
 abbrev pub default_bounds : Bounds
 default_bounds = record { steps = 2000; depth = 128; length = 16 }
@@ -36,20 +47,95 @@ pub record IsBeyond (program : Program) (places : List Place) (text : List ℕ) 
   pub domain : domain_of places text ≡ Ok parts
   pub beyond : ((at : ℕ) × (fault_of program ≡ Some at)) ⊎ (1000 < size_of parts)
 
+-- why a program that was linked is refused
+abbrev pub RefusesProgram : Program → List Place → List ℕ → Refusal → Type 0
+RefusesProgram program places text (refusals.Domain at) = domain_of places text ≡ Err at
+RefusesProgram program places text refusals.Unsupported = IsBeyond program places text
+RefusesProgram program places text _ = ⊥
+
 -- why an answer comes for a program that was linked
 abbrev pub Tells : Program → List Place → List ℕ → Answer → Type 0
 Tells program places text (answers.Found linked f) = (linked ≡ program) × Finds program places text f
-Tells program places text (answers.Domain at) = domain_of places text ≡ Err at
-Tells program places text answers.Unsupported = IsBeyond program places text
-Tells program places text answers.RawLocals = ⊥
-Tells program places text (answers.Body kind at) = ⊥
+Tells program places text (answers.Refused why) = RefusesProgram program places text why
 Tells program places text answers.Memory = Unit {0}
 
--- why an answer comes for the bytes of a body, with parameters of these places: the first of these that fits
-abbrev pub Explains : List ℕ → List Place → List ℕ → Answer → Type 0
-Explains bytes places text (answers.Body kind at) = (body_of bytes ≡ Err (kind, at)) × (kind ≢ Later)
-Explains bytes places text answers.RawLocals = (body : Body) × (body_of bytes ≡ Ok body) × (body.locals_token ≢ 0)
-Explains bytes places text (answers.Domain at) = (program : Program) × ReadsRaw bytes places program × (domain_of places text ≡ Err at)
-Explains bytes places text answers.Unsupported = ((at : ℕ) × (body_of bytes ≡ Err (Later, at))) ⊎ ((program : Program) × ReadsRaw bytes places program × IsBeyond program places text)
-Explains bytes places text (answers.Found program f) = ReadsRaw bytes places program × Finds program places text f
-Explains bytes places text answers.Memory = Unit {0}
+-- why the bytes of a raw body are refused: the first of these that fits
+abbrev pub RefusesRaw : List ℕ → List Place → List ℕ → Refusal → Type 0
+RefusesRaw bytes places text (refusals.Body kind at method) = (body_of bytes ≡ Err (kind, at)) × (kind ≢ Later) × (method ≡ 0)
+RefusesRaw bytes places text refusals.RawLocals = (body : Body) × (body_of bytes ≡ Ok body) × (body.locals_token ≢ 0)
+RefusesRaw bytes places text (refusals.Domain at) = (program : Program) × ReadsRaw bytes places program × (domain_of places text ≡ Err at)
+RefusesRaw bytes places text refusals.Unsupported = ((at : ℕ) × (body_of bytes ≡ Err (Later, at))) ⊎ ((program : Program) × ReadsRaw bytes places program × IsBeyond program places text)
+RefusesRaw bytes places text _ = ⊥
+
+-- why an answer comes for the bytes of a raw body, with parameters of these places
+abbrev pub ExplainsRaw : List ℕ → List Place → List ℕ → Answer → Type 0
+ExplainsRaw bytes places text (answers.Found program f) = ReadsRaw bytes places program × Finds program places text f
+ExplainsRaw bytes places text (answers.Refused why) = RefusesRaw bytes places text why
+ExplainsRaw bytes places text answers.Memory = Unit {0}
+
+-- The places by which the domain's text is read: those of the program's parameters, and those of a method of another form, where they are at
+-- most sixteen integers.
+abbrev pub HasPlaces : View → pe.View → List ℕ → List Place → Type 0
+HasPlaces v image name places =
+    ((program : Program) × Reads v image name program × (places ≡ params_of program))
+    ⊎ (Blames v image name (faults.Later (Some places)) × (length places ≤ 16))
+
+-- The domain's text is in form for these parameters. Where they aren't at most sixteen integers, it isn't looked at.
+abbrev pub IsInForm : Option (List Place) → List ℕ → Type 0
+IsInForm None text = Unit {0}
+IsInForm (Some places) text = (16 < length places) ⊎ ((parts : List Part) × (domain_of places text ≡ Ok parts))
+
+-- the method's body, the method, its program or the domain is of a form that isn't explored yet
+abbrev pub IsUnsupported : View → pe.View → List ℕ → List ℕ → Type 0
+IsUnsupported v image name text =
+    ((at : ℕ) × (method : ℕ) × Blames v image name (faults.BadBody (body_faults.Bad Later at) method))
+    ⊎ ((params : Option (List Place)) × Blames v image name (faults.Later params) × IsInForm params text)
+    ⊎ ((program : Program) × Reads v image name program × IsBeyond program (params_of program) text)
+
+-- why a method of resolved metadata is refused, by its name: the first of these that fits
+abbrev pub RefusesNamed : View → pe.View → List ℕ → List ℕ → Refusal → Type 0
+RefusesNamed v image name text refusals.NoMethod = Blames v image name faults.NoMethod
+RefusesNamed v image name text refusals.Ambiguous = Blames v image name faults.Ambiguous
+RefusesNamed v image name text refusals.NoBody = Blames v image name faults.NoBody
+RefusesNamed v image name text (refusals.Body kind at method) = Blames v image name (faults.BadBody (body_faults.Bad kind at) method) × (kind ≢ Later)
+RefusesNamed v image name text (refusals.Domain at) = (places : List Place) × HasPlaces v image name places × (domain_of places text ≡ Err at)
+RefusesNamed v image name text refusals.Unsupported = IsUnsupported v image name text
+RefusesNamed v image name text _ = ⊥
+
+-- why an answer comes for a method of resolved metadata, by its name
+abbrev pub ExplainsNamed : View → pe.View → List ℕ → List ℕ → Answer → Type 0
+ExplainsNamed v image name text (answers.Found program f) = Reads v image name program × Finds program (params_of program) text f
+ExplainsNamed v image name text (answers.Refused why) = RefusesNamed v image name text why
+ExplainsNamed v image name text answers.Memory = Unit {0}
+
+-- the bytes of an image's metadata
+abbrev pub metadata_in : pe.View → List ℕ
+metadata_in image = take image.metadata.len (drop image.metadata.start image.bytes)
+
+-- an assembly: the image of the bytes, and what is known of its metadata, in which no row has a fault
+pub record IsAssembly (bytes : List ℕ) (image : pe.View) (v : View) : Type 0 where
+  pub image_is : image_of bytes ≡ Ok image
+  pub tables : metadata_of (metadata_in image) ≡ Ok v
+  pub faultless : IsFaultless v
+
+-- the bytes are an image, and this is so of its metadata
+abbrev pub HasMetadata : List ℕ → (List ℕ → Type 0) → Type 0
+HasMetadata bytes Is = (image : pe.View) × (image_of bytes ≡ Ok image) × Is (metadata_in image)
+
+-- why the bytes of an assembly are refused, with a method by its name: the image, the tables, the rows, and then the method
+abbrev pub RefusesMethod : List ℕ → List ℕ → List ℕ → Refusal → Type 0
+RefusesMethod bytes name text (refusals.Pe fault) = image_of bytes ≡ Err fault
+RefusesMethod bytes name text (refusals.Tables fault) = HasMetadata bytes (λ metadata. metadata_of metadata ≡ Err fault)
+RefusesMethod bytes name text (refusals.Meta kind token) = HasMetadata bytes (λ metadata. (v : View) × (metadata_of metadata ≡ Ok v) × IsFirstFault v kind token)
+RefusesMethod bytes name text why = (image : pe.View) × (v : View) × IsAssembly bytes image v × RefusesNamed v image name text why
+
+-- why an answer comes for the bytes of an assembly, with a method by its name
+abbrev pub ExplainsMethod : List ℕ → List ℕ → List ℕ → Answer → Type 0
+ExplainsMethod bytes name text (answers.Found program f) = (image : pe.View) × (v : View) × IsAssembly bytes image v × ExplainsNamed v image name text (answers.Found program f)
+ExplainsMethod bytes name text (answers.Refused why) = RefusesMethod bytes name text why
+ExplainsMethod bytes name text answers.Memory = Unit {0}
+
+-- why an answer comes for the bytes of a file, with what is explored of it
+abbrev pub Explains : List ℕ → Target → List ℕ → Answer → Type 0
+Explains bytes (targets.Raw params places) text answer = ExplainsRaw bytes places.now text answer
+Explains bytes (targets.Method name) text answer = ExplainsMethod bytes name.now text answer

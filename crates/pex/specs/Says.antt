@@ -6,7 +6,7 @@ use Rattle.px_io.specs.Counts.{Rose}
 use Rattle.px_io.specs.Files.{Files, file_of}
 use Rattle.px_io.specs.Puts.{GrewByFront, extended}
 use Rattle.px_tests.specs.declared.findings.Input.{Input}
-use Rattle.px_tests.specs.declared.findings.Input.TheVariants.{Raw}
+use Rattle.px_tests.specs.declared.findings.Input.TheVariants.{Raw, Method}
 use Rattle.px_tests.specs.Text.{text_of}
 use Rattle.pex.specs.declared.answer.Answer.{Answer}
 use Rattle.pex.specs.declared.answer.Answer.TheVariants as answers
@@ -15,7 +15,9 @@ use Rattle.pex.specs.declared.top.Reply.TheVariants as replies
 use Rattle.pex.specs.declared.top.Status.{Status}
 use Rattle.pex.specs.declared.top.Status.TheVariants as statuses
 use Rattle.pex.specs.Answers.{Explains}
-use Rattle.pex.specs.Lines.{body_line, domain_line, no_file_line, raw_locals_line, read_fault_line, too_long_line, unsupported_line, usage_line}
+use Rattle.pex.specs.declared.words.Target.{Target}
+use Rattle.pex.specs.declared.words.Target.TheVariants as targets
+use Rattle.pex.specs.Lines.{no_file_line, read_fault_line, refusal_line, too_long_line, usage_line}
 use Rattle.pex.specs.Words.{Asks, misfit}
 
 -- What a call saw of its shelf: the files, where they are told, and the counts before and after it.
@@ -45,31 +47,27 @@ abbrev pub IsTooLong : Option Files → List ℕ → Type 0
 IsTooLong None name = Unit {0}
 IsTooLong (Some files) name = IsLong (file_of files name)
 
+-- what a report tells of its input
+abbrev pub input_of : Target → Input
+input_of (targets.Raw params places) = Raw params.now
+input_of (targets.Method name) = Method name.now
+
 -- the text of an answer; want of memory writes nothing
 abbrev pub answer_text : Input → Answer → List ℕ
 answer_text input (answers.Found program f) = text_of program input f
-answer_text input (answers.Body kind at) = body_line kind at
-answer_text input answers.RawLocals = raw_locals_line
-answer_text input (answers.Domain at) = domain_line at
-answer_text input answers.Unsupported = unsupported_line
+answer_text input (answers.Refused why) = refusal_line why
 answer_text input answers.Memory = []
 
 -- the status of an answer
 abbrev pub status_of : Answer → Status
 status_of (answers.Found program f) = statuses.Done
-status_of (answers.Body kind at) = statuses.Refused
-status_of answers.RawLocals = statuses.Refused
-status_of (answers.Domain at) = statuses.Refused
-status_of answers.Unsupported = statuses.Refused
+status_of (answers.Refused why) = statuses.Refused
 status_of answers.Memory = statuses.NoMemory
 
 -- each test of a report is one of its domain
 abbrev pub IsWritable : Answer → Type 0
 IsWritable (answers.Found program f) = AllByRecursion (λ r. InDomain f.domain r.words) f.records
-IsWritable (answers.Body kind at) = Unit {0}
-IsWritable answers.RawLocals = Unit {0}
-IsWritable (answers.Domain at) = Unit {0}
-IsWritable answers.Unsupported = Unit {0}
+IsWritable (answers.Refused why) = Unit {0}
 IsWritable answers.Memory = Unit {0}
 
 -- the text of a reply; want of memory writes nothing
@@ -115,9 +113,9 @@ pub record Answers (words : List (List ℕ)) (seen : Fetching) (status : Status)
   pub bytes : List ℕ
   pub content : IsContent seen.files asks.file bytes
   pub answer : Answer
-  pub explained : Explains bytes asks.places asks.text answer
+  pub explained : Explains bytes asks.target asks.text answer
   pub status_is : status ≡ status_of answer
-  pub text_is : text ≡ answer_text (Raw asks.params) answer
+  pub text_is : text ≡ answer_text (input_of asks.target) answer
 
 pub record Misses (words : List (List ℕ)) (seen : Fetching) (text : List ℕ) : Type 0 where
   pub asks : Asks words

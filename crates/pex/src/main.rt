@@ -2,7 +2,12 @@
 #![tactic(auto)]
 
 mod answer;
+#[cfg(test)]
+mod assemblies;
+mod method;
 mod put;
+mod raw;
+mod refusals;
 #[cfg(test)]
 mod reports;
 #[cfg(test)]

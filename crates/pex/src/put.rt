@@ -3,13 +3,13 @@ ghost use Rattle.std.specs.Prelude.{◌≡◌, []};
 ghost use Rattle.std.specs.List.{AllByRecursion};
 ghost use Rattle.px_domain.specs.Domain.{InDomain};
 ghost use Rattle.px_io.specs.Puts.{Puts};
-ghost use Rattle.pex.specs.Lines.{body_line, domain_line, kind_text, no_file_line, raw_locals_line, read_fault_line, too_long_line, unsupported_line, usage_line};
+ghost use Rattle.pex.specs.Lines.{no_file_line, read_fault_line, too_long_line, usage_line};
 ghost use Rattle.pex.specs.Says.{IsSayable, IsWritable, answer_text, reply_text};
 
 use crate::answer::Answer;
+use crate::refusals::put_refusal;
 use crate::top::Reply;
-use px_code::BodyKind;
-use px_io::Piece::{Count, Name, Number, Text};
+use px_io::Piece::{Count, Name, Text};
 use px_io::{Sink, Stopped, put_pieces};
 use px_tests::{Input, write_report};
 
@@ -44,54 +44,6 @@ fn put_too_long<O: Sink>(out: &mut O) -> Result<(), Stopped>
     put_pieces(out, &[Text("refused file TooLong\n")])
 }
 
-fn kind_text(kind: BodyKind) -> &'static str
-    ensures { result.now ≡ kind_text kind }
-{
-    match kind {
-        BodyKind::BadHeader => "BadHeader",
-        BodyKind::Cut => "Cut",
-        BodyKind::BadTarget => "BadTarget",
-        BodyKind::Later => "Later",
-    }
-}
-
-#[tactic(auto, unfolding(crate::specs::Lines::body_line))]
-fn put_body<O: Sink>(out: &mut O, kind: BodyKind, at: u32) -> Result<(), Stopped>
-    ensures { Puts O.written O.faults out.old (body_line kind at) out.new result }
-{
-    put_pieces(
-        out,
-        &[
-            Text("refused body "),
-            Text(kind_text(kind)),
-            Text(" at "),
-            Number(at),
-            Text(" method 0\n"),
-        ],
-    )
-}
-
-#[tactic(auto, unfolding(crate::specs::Lines::raw_locals_line))]
-fn put_raw_locals<O: Sink>(out: &mut O) -> Result<(), Stopped>
-    ensures { Puts O.written O.faults out.old raw_locals_line out.new result }
-{
-    put_pieces(out, &[Text("refused method RawLocals\n")])
-}
-
-#[tactic(auto, unfolding(crate::specs::Lines::domain_line))]
-fn put_domain_fault<O: Sink>(out: &mut O, at: u32) -> Result<(), Stopped>
-    ensures { Puts O.written O.faults out.old (domain_line at) out.new result }
-{
-    put_pieces(out, &[Text("refused domain at "), Number(at), Text("\n")])
-}
-
-#[tactic(auto, unfolding(crate::specs::Lines::unsupported_line))]
-fn put_unsupported<O: Sink>(out: &mut O) -> Result<(), Stopped>
-    ensures { Puts O.written O.faults out.old unsupported_line out.new result }
-{
-    put_pieces(out, &[Text("refused unsupported\n")])
-}
-
 fn put_nothing<O: Sink>(out: &mut O) -> Result<(), Stopped>
     ensures { Puts O.written O.faults out.old [] out.new result }
 {
@@ -105,10 +57,7 @@ fn put_answer<O: Sink>(out: &mut O, input: &Input, answer: &Answer) -> Result<()
 {
     match answer {
         Answer::Found(program, findings) => write_report(program.program(), input, findings, out),
-        Answer::Body(kind, at) => put_body(out, *kind, *at),
-        Answer::RawLocals => put_raw_locals(out),
-        Answer::Domain(at) => put_domain_fault(out, *at),
-        Answer::Unsupported => put_unsupported(out),
+        Answer::Refused(why) => put_refusal(out, *why),
         Answer::Memory => put_nothing(out),
     }
 }

@@ -7,9 +7,8 @@ use std::test::Fail;
 // A body that compares its argument with 7.
 pub const IS_SEVEN: &[u8] = &[0x22, 0x02, 0x1D, 0x2E, 0x02, 0x16, 0x2A, 0x17, 0x2A];
 
-const IS_SEVEN_REPORT: &str = "pex report 1
-input raw int32
-domain (0..9)
+// What is told of it behind the input.
+pub const IS_SEVEN_LINES: &str = "domain (0..9)
 bounds steps 2000 depth 128 length 16
 limits runs 1000 spent 64 conflicts 1000
 test 0 args (0) path 0:2:B:0 end returned 0
@@ -51,7 +50,8 @@ pub fn call(
 fn a_body_gets_its_report_and_a_full_sink_a_front_of_it(rt: HostRuntime) -> Result<(), Fail> {
     let alloc = rt.alloc();
     let texts = ["explore-raw", "f.bin", "int32", "--domain", "(0..9)"];
-    let whole = IS_SEVEN_REPORT.len();
+    let report = format!(in alloc; "pex report 1\ninput raw int32\n{IS_SEVEN_LINES}")?;
+    let whole = report.len();
     for room in 0..=whole {
         let (status, out) = call(alloc, &texts, IS_SEVEN, room as u32)?;
         let want = if room == whole {
@@ -60,11 +60,7 @@ fn a_body_gets_its_report_and_a_full_sink_a_front_of_it(rt: HostRuntime) -> Resu
             Status::WriteFault
         };
         assert_eq!(rt; status, want, "room {room}");
-        assert_eq!(rt;
-            out.bytes(),
-            &IS_SEVEN_REPORT.as_bytes()[..room],
-            "room {room}"
-        );
+        assert_eq!(rt; out.bytes(), &report.as_bytes()[..room], "room {room}");
     }
     Ok(())
 }
@@ -150,12 +146,30 @@ fn bodies_and_domains_are_refused(rt: HostRuntime) -> Result<(), Fail> {
 }
 
 // Words that are out of form, and the place of the first that doesn't fit.
-const OUT_OF_FORM: [(&'static [&'static str], &'static str); 12] = [
+const OUT_OF_FORM: [(&'static [&'static str], &'static str); 24] = [
     (&[], "usage word 0\n"),
     (
-        &["explore", "f.bin", "int32", "--domain", "(0..9)"],
+        &["explores", "f.bin", "a::b", "--domain", "(0..9)"],
         "usage word 0\n",
     ),
+    (
+        &["explore", "", "a::b", "--domain", "(0..9)"],
+        "usage word 1\n",
+    ),
+    (&["explore", "f.bin"], "usage word 2\n"),
+    (&["explore", "f.bin", "int32"], "usage word 2\n"),
+    (&["explore", "f.bin", "a:b"], "usage word 2\n"),
+    (&["explore", "f.bin", "a:::b"], "usage word 2\n"),
+    (&["explore", "f.bin", "a::b::c"], "usage word 2\n"),
+    (&["explore", "f.bin", "::b"], "usage word 2\n"),
+    (&["explore", "f.bin", "a::"], "usage word 2\n"),
+    (&["explore", "f.bin", "-a::b"], "usage word 2\n"),
+    (&["explore", "f.bin", "a::b"], "usage word 3\n"),
+    (
+        &["explore", "f.bin", "a::b", "--domain", "(0..9)", "-"],
+        "usage word 5\n",
+    ),
+    (&["explore-raw", "f.bin", "a::b"], "usage word 2\n"),
     (&["explore-raw"], "usage word 1\n"),
     (&["explore-raw", ""], "usage word 1\n"),
     (

@@ -1,17 +1,15 @@
 // The top call.
-ghost use Rattle.std.specs.Prelude.{◌≡◌, ◌≢◌, ◌<◌, ◌≤◌, ◌^◌, ℕ, List, length, Some};
-ghost use Rattle.std.specs.List.{AllByRecursion};
-ghost use Rattle.px_domain.specs.Place.{IsInteger};
+ghost use Rattle.std.specs.Prelude.{◌≡◌, ◌≢◌, ◌<◌, ◌≤◌, ◌^◌, ℕ, List, length, IfOk, Some};
 ghost use Rattle.px_io.specs.Counts.{Rose};
-ghost use Rattle.pex.specs.Says.{Fetching, IsContent, IsSayable, Says, Wrote, WroteFront, exit_status, fetching, reply_status, reply_text, status_of};
-ghost use Rattle.pex.specs.Words.{AsksFor, misfit};
+ghost use Rattle.pex.specs.Says.{Fetching, IsContent, IsSayable, Says, Wrote, WroteFront, exit_status, fetching, input_of, reply_status, reply_text, status_of};
+ghost use Rattle.pex.specs.Words.{AsksFor, TakesIntegers, misfit};
 
 use crate::answer::{Answer, answer_of};
 use crate::put::put_reply;
-use crate::words::{Asked, read_words};
+use crate::words::{Asked, Target, read_words};
 use px_io::{FetchFault, Fetched, Shelf, Sink, Stopped, Word};
 use px_tests::Input;
-use std::alloc::Global;
+use std::alloc::{AllocError, Global};
 
 /// How a call ended.
 #[derive(Clone, Copy, Debug, PartialEq, Eq)]
@@ -20,7 +18,7 @@ pub enum Status {
     Done,
     /// The words are not of the form.
     Usage,
-    /// The body, the domain or the length of the file is refused.
+    /// The file, the method, the domain or the length of the file is refused.
     Refused,
     /// The file isn't there.
     NoFile,
@@ -72,8 +70,7 @@ fn status_of(answer: &Answer) -> Status
 {
     match answer {
         Answer::Found(_, _) => Status::Done,
-        Answer::Body(_, _) | Answer::RawLocals => Status::Refused,
-        Answer::Domain(_) | Answer::Unsupported => Status::Refused,
+        Answer::Refused(_) => Status::Refused,
         Answer::Memory => Status::NoMemory,
     }
 }
@@ -97,19 +94,28 @@ impl<'a> Reply<'a> {
 // The most bytes of a file that are read.
 const FILE_LIMIT: u32 = 16777216;
 
+// What a report tells of its input.
+fn input_of(alloc: Global, target: Target) -> Result<Input, AllocError>
+    ensures { IfOk result (λ input. input ≡ input_of target.entry) }
+{
+    match target {
+        Target::Raw(params, _) => Ok(Input::Raw(Word::new(alloc, params)?)),
+        Target::Method(name) => Ok(Input::Method(Word::new(alloc, name)?)),
+    }
+}
+
 // What the bytes of the file give.
 fn answered<'a>(alloc: Global, asked: &Asked<'a>, bytes: &[u8]) -> Reply<'a>
     requires bytes { length bytes.now ≤ FILE_LIMIT }
     requires text { length asked.now.text.now < 2 ^ 32 }
-    requires few { length asked.now.places.now ≤ 16 }
-    requires integers { AllByRecursion IsInteger asked.now.places.now }
-    ensures says { (words : List (List ℕ)) (seen : Fetching) → AsksFor words asked.now.file.now asked.now.params.now asked.now.places.now asked.now.text.now → IsContent seen.files asked.now.file.now bytes.now → Says words seen (reply_status result) (reply_text result) }
+    requires integers { TakesIntegers asked.now.target }
+    ensures says { (words : List (List ℕ)) (seen : Fetching) → AsksFor words asked.now.file.now asked.now.target asked.now.text.now → IsContent seen.files asked.now.file.now bytes.now → Says words seen (reply_status result) (reply_text result) }
     ensures sayable { IsSayable result }
 {
-    match Word::new(alloc, asked.params) {
-        Ok(params) => {
-            let answer = answer_of(alloc, bytes, asked.places, asked.text);
-            Reply::Answered(Input::Raw(params), answer)
+    match input_of(alloc, asked.target) {
+        Ok(input) => {
+            let answer = answer_of(alloc, bytes, asked.target, asked.text);
+            Reply::Answered(input, answer)
         }
         Err(_) => Reply::NoMemory,
     }
@@ -118,9 +124,8 @@ fn answered<'a>(alloc: Global, asked: &Asked<'a>, bytes: &[u8]) -> Reply<'a>
 // What the file that the words ask for gives.
 fn fetched<'a, S: Shelf>(alloc: Global, asked: &Asked<'a>, shelf: &mut S) -> Reply<'a>
     requires text { length asked.now.text.now < 2 ^ 32 }
-    requires few { length asked.now.places.now ≤ 16 }
-    requires integers { AllByRecursion IsInteger asked.now.places.now }
-    ensures says { (words : List (List ℕ)) → AsksFor words asked.now.file.now asked.now.params.now asked.now.places.now asked.now.text.now → Says words (fetching (S.files shelf.old) (S.misses shelf.old) (S.misses shelf.new) (S.faults shelf.old) (S.faults shelf.new)) (reply_status result) (reply_text result) }
+    requires integers { TakesIntegers asked.now.target }
+    ensures says { (words : List (List ℕ)) → AsksFor words asked.now.file.now asked.now.target asked.now.text.now → Says words (fetching (S.files shelf.old) (S.misses shelf.old) (S.misses shelf.new) (S.faults shelf.old) (S.faults shelf.new)) (reply_status result) (reply_text result) }
     ensures sayable { IsSayable result }
 {
     match shelf.fetch(alloc, asked.file, FILE_LIMIT) {

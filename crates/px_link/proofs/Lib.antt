@@ -1,1 +1,5 @@
-pub mod Linked
+pub mod Finding
+pub mod Formed
+pub mod Linking
+pub mod Naming
+pub mod Texts

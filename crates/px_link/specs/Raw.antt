@@ -64,10 +64,10 @@ code_by opcode operand target =
 abbrev pub instr_of : RawInstr → Instr
 instr_of raw = record { offset = raw.offset; next = raw.next; code = code_by raw.opcode raw.operand (slice_index raw.targets 0) }
 
--- the static method with these parameters that returns an int32
-abbrev pub method_of : Body → List Place → Method
-method_of body params = record {
-  name = codes "raw";
+-- the static method of this name with these parameters that returns an int32
+abbrev pub method_of : List ℕ → Body → List Place → Method
+method_of name body params = record {
+  name = name;
   owner = 0;
   is_static = true;
   params = params;
@@ -79,8 +79,12 @@ method_of body params = record {
 }
 
 -- the program of this method alone
+abbrev pub program_with : Method → Program
+program_with method = record { types = []; methods = method ∷ []; entry = 0; maker = None }
+
+-- the program of a raw body
 unfoldable pub program_of : Body → List Place → Program
-program_of body params = record { types = []; methods = method_of body params ∷ []; entry = 0; maker = None }
+program_of body params = program_with (method_of (codes "raw") body params)
 
 -- the program is that of the body which the bytes begin with
 pub record ReadsRaw (bytes : List ℕ) (params : List Place) (program : Program) : Type 0 where

@@ -1,12 +1,25 @@
 // Why a program isn't linked.
 ghost use Rattle.std.specs.Prelude.{◌≡◌};
 
+use px_code::BodyFault;
+use px_program::Place;
+use sqlite_items::Items;
 use std::alloc::{AllocError, AllocFailed};
 
 /// Why a program isn't linked.
-#[derive(Clone, Copy, Debug, PartialEq, Eq)]
+#[derive(Debug, Drop)]
 pub enum LinkFault {
     Memory,
+    /// No method has the name.
+    NoMethod,
+    /// More than one method has the name.
+    Ambiguous,
+    /// The method has no body, or its signature isn't plain.
+    NoBody,
+    /// The body of a method, by its number in the program, isn't read.
+    BadBody { fault: BodyFault, method: u32 },
+    /// The method is of a form that isn't linked yet. Its parameters have these places, where all are integers.
+    Later { params: Option<Items<Place>> },
     /// The body of a raw method names a signature of locals, which only an assembly has.
     RawLocals,
 }

@@ -2,10 +2,16 @@
 #![tactic(auto)]
 
 mod fault;
+mod form;
+#[cfg(test)]
+mod link_tests;
+mod linked;
+mod name;
 mod opcode;
 mod raw;
 #[cfg(test)]
 mod tests;
 
 pub use fault::LinkFault;
+pub use linked::link;
 pub use raw::link_raw;

@@ -2,7 +2,7 @@
 ghost use Rattle.std.specs.Prelude.{◌≡◌, ◌≢◌, ◌≤◌, length, map, Err, IfOk};
 ghost use Rattle.px_code.specs.Body.{IsFormed};
 ghost use Rattle.px_program.specs.Formed.{IsWellFormed};
-ghost use Rattle.px_link.specs.Raw.{instr_of, method_of, program_of};
+ghost use Rattle.px_link.specs.Raw.{instr_of, method_of, program_of, program_with};
 
 use crate::LinkFault;
 use crate::opcode::code_by;
@@ -32,12 +32,17 @@ fn code_of(alloc: Global, raws: &[RawInstr]) -> Result<Vec<Instr>, AllocError>
     Ok(code)
 }
 
-// The static method with these parameters that returns an int32.
-fn method_of(alloc: Global, body: &Body, params: &[Place]) -> Result<Method, AllocError>
-    ensures { IfOk result (λ method. method ≡ method_of body.now params.now) }
+// The static method of this name with these parameters that returns an int32.
+fn method_of(
+    alloc: Global,
+    name: &[u8],
+    body: &Body,
+    params: &[Place],
+) -> Result<Method, AllocError>
+    ensures { IfOk result (λ method. method ≡ method_of name.now body.now params.now) }
 {
     Ok(Method {
-        name: Items::from_slice(alloc, b"raw")?,
+        name: Items::from_slice(alloc, name)?,
         owner: 0,
         is_static: true,
         params: Items::from_slice(alloc, params)?,
@@ -49,9 +54,31 @@ fn method_of(alloc: Global, body: &Body, params: &[Place]) -> Result<Method, All
     })
 }
 
+/// The program of this method alone.
+#[tactic(auto, using(crate::proofs::Formed::well_formed))]
+pub fn program_with(
+    alloc: Global,
+    name: &[u8],
+    body: &Body,
+    params: &[Place],
+) -> Result<Program, AllocError>
+    requires { IsFormed body.now }
+    ensures program { IfOk result (λ p. p ≡ program_with (method_of name.now body.now params.now)) }
+    ensures well_formed { IfOk result IsWellFormed }
+{
+    let mut methods = Items::new(alloc);
+    methods.push(method_of(alloc, name, body, params)?)?;
+    Ok(Program {
+        types: Items::new(alloc),
+        methods,
+        entry: 0,
+        maker: None,
+    })
+}
+
 /// The program of one static method with these parameters that returns an int32 and has the body as `read_body` gives it.
 /// RawLocals comes exactly where the body names a signature of locals.
-#[tactic(auto, using(crate::proofs::Linked::well_formed), unfolding(crate::specs::Raw::program_of))]
+#[tactic(auto, unfolding(crate::specs::Raw::program_of))]
 pub fn link_raw(alloc: Global, body: &Body, params: &[Place]) -> Result<Program, LinkFault>
     requires formed { IsFormed body.now }
     requires params { length params.now ≤ 16 }
@@ -63,12 +90,5 @@ pub fn link_raw(alloc: Global, body: &Body, params: &[Place]) -> Result<Program,
     if body.locals_token != 0 {
         return Err(LinkFault::RawLocals);
     }
-    let mut methods = Items::new(alloc);
-    methods.push(method_of(alloc, body, params)?)?;
-    Ok(Program {
-        types: Items::new(alloc),
-        methods,
-        entry: 0,
-        maker: None,
-    })
+    Ok(program_with(alloc, b"raw", body, params)?)
 }

@@ -3,6 +3,7 @@ use Rattle.std.specs.Prelude.{ℕ, zero, suc, List, [], ◌∷◌, ◌++◌, cod
 use Rattle.std.specs.List.{flat_map}
 use Rattle.px_domain.specs.declared.domain.Part.{Part}
 use Rattle.px_domain.specs.Text.{args_text, domain_text}
+use Rattle.px_io.specs.Pieces.{name_text}
 use Rattle.px_program.specs.declared.program.Program.{Program}
 use Rattle.px_program.specs.declared.record.Bounds.{Bounds}
 use Rattle.px_program.specs.declared.record.End.{End}
@@ -14,7 +15,7 @@ use Rattle.px_program.specs.declared.record.SiteKind.{SiteKind}
 use Rattle.px_program.specs.declared.record.SiteKind.TheVariants as kinds
 use Rattle.px_tests.specs.declared.findings.Findings.{Findings}
 use Rattle.px_tests.specs.declared.findings.Input.{Input}
-use Rattle.px_tests.specs.declared.findings.Input.TheVariants.{Raw}
+use Rattle.px_tests.specs.declared.findings.Input.TheVariants.{Raw, Method}
 use Rattle.px_tests.specs.Ends.{end_text}
 
 abbrev pub kind_text : SiteKind → List ℕ
@@ -96,9 +97,13 @@ is_failing (ends.Outside method at) = false
 unfoldable pub raw_text : List ℕ → List ℕ
 raw_text params = codes "pex report 1\ninput raw " ++ (params ++ (codes "\ndomain " ++ []))
 
+unfoldable pub method_text : List ℕ → List ℕ
+method_text name = codes "pex report 1\ninput method " ++ (name_text name ++ (codes "\ndomain " ++ []))
+
 -- the first two lines, and the next up to the domain
 abbrev pub input_text : Input → List ℕ
 input_text (Raw params) = raw_text params
+input_text (Method name) = method_text name
 
 unfoldable pub bounds_text : Bounds → List ℕ
 bounds_text b = codes "\nbounds steps " ++ (decimal b.steps ++ (codes " depth " ++ (decimal b.depth ++ (codes " length " ++ (decimal b.length ++ (codes "\n" ++ []))))))

@@ -2,10 +2,10 @@
 ghost use Rattle.std.specs.Prelude.{◌≡◌, ◌++◌, codes, count_by, decimal, length};
 ghost use Rattle.std.specs.List.{flat_map};
 ghost use Rattle.px_io.specs.Puts.{Puts};
-ghost use Rattle.px_tests.specs.Text.{bounds_text, comma_event_text, counts_line, counts_text, event_text, input_text, is_bounded, is_failing, is_outside, kind_text, limits_text, path_part, path_text, raw_text, test_head};
+ghost use Rattle.px_tests.specs.Text.{bounds_text, comma_event_text, counts_line, counts_text, event_text, input_text, is_bounded, is_failing, is_outside, kind_text, limits_text, method_text, path_part, path_text, raw_text, test_head};
 
 use crate::Input;
-use px_io::Piece::{Count, Number, Text};
+use px_io::Piece::{Count, Name, Number, Text};
 use px_io::{Sink, Stopped, put_pieces};
 use px_program::{Bounds, End, Event, Limits, Record, SiteKind};
 
@@ -23,11 +23,26 @@ fn put_raw<O: Sink>(out: &mut O, params: &str) -> Result<(), Stopped>
     )
 }
 
+#[tactic(auto, unfolding(crate::specs::Text::method_text))]
+fn put_method<O: Sink>(out: &mut O, name: &str) -> Result<(), Stopped>
+    ensures { Puts O.written O.faults out.old (method_text name.now) out.new result }
+{
+    put_pieces(
+        out,
+        &[
+            Text("pex report 1\ninput method "),
+            Name(name.as_bytes()),
+            Text("\ndomain "),
+        ],
+    )
+}
+
 pub fn put_input<O: Sink>(out: &mut O, input: &Input) -> Result<(), Stopped>
     ensures { Puts O.written O.faults out.old (input_text input.now) out.new result }
 {
     match input {
         Input::Raw(params) => put_raw(out, params.text()),
+        Input::Method(name) => put_method(out, name.text()),
     }
 }
 

@@ -4,4 +4,4 @@ use Rattle.pex.proofs.words.misfit.Given as goal
 
 -- the words so far fit
 abbrev pub invariant-loop-place : goal.invariant-loop-place
-invariant-loop-place l = misfit_from l.place (drop l.place l.words) ≡ misfit l.words
+invariant-loop-place l = misfit_from l.command l.place (drop l.place l.words) ≡ misfit l.words

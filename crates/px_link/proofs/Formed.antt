@@ -9,7 +9,7 @@ use Rattle.px_code.specs.Body.{is_from_to}
 use Rattle.px_program.specs.declared.instr.Code.{Code}
 use Rattle.px_program.specs.declared.program.Place.{Place}
 use Rattle.px_program.specs.Formed as made
-use Rattle.px_link.specs.Raw.{code_by, instr_of, program_of}
+use Rattle.px_link.specs.Raw.{code_by, instr_of, method_of, program_with}
 
 follow : (at : ℕ) (xs : List RawInstr) → raw.Follow at xs → made.Follow at (map instr_of xs)
 follow at [] h = tt
@@ -81,9 +81,8 @@ not_empty : (xs : List RawInstr) → xs ≢ [] → map instr_of xs ≢ []
 not_empty [] h e = h refl
 not_empty (x ∷ xs) h e = cc
 
-pub well_formed : (body : Body) (params : List Place) → raw.IsFormed body → made.IsWellFormed (program_of body params)
-unfolding program_of
-well_formed body params formed = record {
+pub well_formed : (name : List ℕ) (body : Body) (params : List Place) → raw.IsFormed body → made.IsWellFormed (program_with (method_of name body params))
+well_formed name body params formed = record {
   entry = refl;
   methods = (
     record {

@@ -4,8 +4,8 @@ use Rattle.px_domain.specs.Domain.{params_of}
 use Rattle.px_domain.specs.Place.{IsInteger}
 use Rattle.px_program.specs.declared.program.Place.{Place}
 use Rattle.pex.specs.Answers.{Tells}
-use Rattle.pex.proofs.Telling.{explains, raw_params}
-use Rattle.pex.proofs.answer.linked.Goals as goal
+use Rattle.pex.proofs.Telling.{explains_raw, raw_params}
+use Rattle.pex.proofs.raw.linked.Goals as goal
 
 pub told-requires-clause-few : goal.told-requires-clause-few
 told-requires-clause-few c =
@@ -21,4 +21,4 @@ pub returns-in-Ok : goal.returns-in-Ok
 returns-in-Ok c = λ bytes is.
     let e = ap (λ p. params_of p) c.in-Ok.ensures.program ∙ raw_params c.args.body.now c.args.places.now in
     let P : List Place → Type 0 = λ places. Tells c.in-Ok.program places c.args.text.now c.told.result in
-    explains bytes c.args.places.now c.args.text.now c.args.body.now c.in-Ok.program c.told.result is c.in-Ok.ensures.no_locals (sym c.in-Ok.ensures.program) (subst P e c.told.ensures)
+    explains_raw bytes c.args.places.now c.args.text.now c.args.body.now c.in-Ok.program c.told.result is c.in-Ok.ensures.no_locals (sym c.in-Ok.ensures.program) (subst P e c.told.ensures)

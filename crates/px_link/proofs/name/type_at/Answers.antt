@@ -1,0 +1,7 @@
+use Rattle.px_meta.specs.Members.{IsType}
+use Rattle.px_meta.specs.Rows.{type_defs}
+use Rattle.px_link.proofs.Finding.{item_at}
+use Rattle.px_link.proofs.name.type_at.Goals as goal
+
+pub returns : goal.returns
+returns c = item_at IsType c.args.meta.now type_defs c.types.result.now c.args.row _ c.types.ensures c.requires
