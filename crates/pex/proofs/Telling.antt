@@ -12,6 +12,7 @@ use Rattle.px_io.specs.Files.{Files, Gives, GivesOf, file_of}
 use Rattle.px_io.specs.declared.shelf.Fetched.TheVariants as found
 use Rattle.px_link.specs.Link.{Reads}
 use Rattle.px_link.specs.Raw.{program_of}
+use Rattle.px_link.specs.Raw as raw
 use Rattle.px_pe.specs.Image as pe
 use Rattle.px_program.specs.declared.program.Place.{Place}
 use Rattle.px_program.specs.declared.program.Program.{Program}
@@ -24,15 +25,15 @@ use Rattle.pex.specs.declared.answer.Refusal.{Refusal}
 use Rattle.pex.specs.declared.answer.Refusal.TheVariants as refusals
 use Rattle.pex.specs.declared.words.Target.{Target}
 use Rattle.pex.specs.declared.words.Target.TheVariants as targets
-use Rattle.pex.specs.Answers.{Explains, ExplainsMethod, ExplainsNamed, ExplainsRaw, Finds, IsAssembly, RefusesMethod, RefusesNamed, RefusesProgram, RefusesRaw, Tells}
+use Rattle.pex.specs.Answers.{Explains, ExplainsMethod, ExplainsNamed, ExplainsRaw, Finds, IsAssembly, RefusesMethod, RefusesNamed, RefusesProgram, RefusesRaw, Tells, no_arrays}
 use Rattle.pex.specs.Says.{Fetching, IsAbsent, IsContent, IsLong, IsTooLong, IsWritable, Says, answer_text, input_of, status_of}
 use Rattle.pex.specs.Words.{AsksFor}
 
 -- what a linked program gives is what the bytes of its body give
 refuses_raw : (bytes : List ℕ) (places : List Place) (text : List ℕ) (body : Body) (program : Program) (why : Refusal)
-    → body_of bytes ≡ Ok body → body.locals_token ≡ 0 → program_of body places ≡ program → RefusesProgram program places text why → RefusesRaw bytes places text why
+    → body_of bytes ≡ Ok body → body.locals_token ≡ 0 → program_of body places (no_arrays places) ≡ program → RefusesProgram program places text why → RefusesRaw bytes places text why
 refuses_raw bytes places text body program (refusals.Domain at) is none same h = (program, record { body = body; read = is; no_locals = none; same = same }, h)
-refuses_raw bytes places text body program refusals.Unsupported is none same h = inr (program, record { body = body; read = is; no_locals = none; same = same }, h)
+refuses_raw bytes places text body program refusals.Unsupported is none same h = (program, record { body = body; read = is; no_locals = none; same = same }, h)
 refuses_raw bytes places text body program (refusals.Pe fault) is none same h = absurd h
 refuses_raw bytes places text body program (refusals.Tables fault) is none same h = absurd h
 refuses_raw bytes places text body program (refusals.Meta kind token) is none same h = absurd h
@@ -43,7 +44,7 @@ refuses_raw bytes places text body program (refusals.Body kind at method) is non
 refuses_raw bytes places text body program refusals.RawLocals is none same h = absurd h
 
 pub explains_raw : (bytes : List ℕ) (places : List Place) (text : List ℕ) (body : Body) (program : Program) (answer : Answer)
-    → body_of bytes ≡ Ok body → body.locals_token ≡ 0 → program_of body places ≡ program → Tells program places text answer → ExplainsRaw bytes places text answer
+    → body_of bytes ≡ Ok body → body.locals_token ≡ 0 → program_of body places (no_arrays places) ≡ program → Tells program places text answer → ExplainsRaw bytes places text answer
 explains_raw bytes places text body program (answers.Found linked f) is none same h = (record { body = body; read = is; no_locals = none; same = same ∙ sym h.0 }, (let P : Program → Type 0 = λ p. Finds p places text f in subst P (sym h.0) h.1))
 explains_raw bytes places text body program (answers.Refused why) is none same h = refuses_raw bytes places text body program why is none same h
 explains_raw bytes places text body program answers.Memory is none same h = tt
@@ -52,7 +53,7 @@ explains_raw bytes places text body program answers.Memory is none same h = tt
 refuses_named : (v : View) (image : pe.View) (name text : List ℕ) (program : Program) (why : Refusal)
     → Reads v image name program → RefusesProgram program (params_of program) text why → RefusesNamed v image name text why
 refuses_named v image name text program (refusals.Domain at) r h = (params_of program, inl (program, r, refl), h)
-refuses_named v image name text program refusals.Unsupported r h = inr (inr (program, r, h))
+refuses_named v image name text program refusals.Unsupported r h = inr (program, r, h)
 refuses_named v image name text program (refusals.Pe fault) r h = absurd h
 refuses_named v image name text program (refusals.Tables fault) r h = absurd h
 refuses_named v image name text program (refusals.Meta kind token) r h = absurd h
@@ -132,6 +133,9 @@ is_too_long None name h = tt
 is_too_long (Some files) name h = gave_long (file_of files name) h
 
 -- the parameters of a raw body's program are those that it was made with
-pub raw_params : (body : Body) (places : List Place) → params_of (program_of body places) ≡ places
-unfolding program_of
-raw_params body places = refl
+same_params : (elements places : List Place) → raw.params_of elements places (no_arrays places) ≡ places
+same_params elements [] = refl
+same_params elements (place ∷ places) = ap (λ others. place ∷ others) (same_params elements places)
+
+pub raw_params : (body : Body) (places : List Place) → params_of (program_of body places (no_arrays places)) ≡ places
+raw_params body places = same_params (raw.elements_of places (no_arrays places)) places

@@ -1,8 +1,7 @@
 -- What the bytes of a file and the text of a domain give, before anything is written.
-use Rattle.std.specs.Prelude.{◌≡◌, ◌≢◌, ℕ, ◌<◌, ◌≤◌, List, length, take, drop, Option, Some, None, Ok, Err, ◌⊎◌}
+use Rattle.std.specs.Prelude.{◌≡◌, ◌≢◌, ℕ, ◌<◌, ◌≤◌, List, length, take, drop, Option, Some, None, Ok, Err, ◌⊎◌, map, false, Bool}
 use Rattle.px_code.specs.declared.body.Body.{Body}
 use Rattle.px_code.specs.declared.body.BodyFault.TheVariants as body_faults
-use Rattle.px_code.specs.declared.body.BodyKind.TheVariants.{Later}
 use Rattle.px_code.specs.Body.{body_of}
 use Rattle.px_domain.specs.declared.domain.Part.{Part}
 use Rattle.px_domain.specs.Domain.{params_of, size_of}
@@ -59,17 +58,21 @@ Tells program places text (answers.Found linked f) = (linked ≡ program) × Fin
 Tells program places text (answers.Refused why) = RefusesProgram program places text why
 Tells program places text answers.Memory = Unit {0}
 
+-- no parameter of a raw method is an array
+abbrev pub no_arrays : List Place → List Bool
+no_arrays places = map (λ place. false) places
+
 -- why the bytes of a raw body are refused: the first of these that fits
 abbrev pub RefusesRaw : List ℕ → List Place → List ℕ → Refusal → Type 0
-RefusesRaw bytes places text (refusals.Body kind at method) = (body_of bytes ≡ Err (kind, at)) × (kind ≢ Later) × (method ≡ 0)
+RefusesRaw bytes places text (refusals.Body kind at method) = (body_of bytes ≡ Err (kind, at)) × (method ≡ 0)
 RefusesRaw bytes places text refusals.RawLocals = (body : Body) × (body_of bytes ≡ Ok body) × (body.locals_token ≢ 0)
-RefusesRaw bytes places text (refusals.Domain at) = (program : Program) × ReadsRaw bytes places program × (domain_of places text ≡ Err at)
-RefusesRaw bytes places text refusals.Unsupported = ((at : ℕ) × (body_of bytes ≡ Err (Later, at))) ⊎ ((program : Program) × ReadsRaw bytes places program × IsBeyond program places text)
+RefusesRaw bytes places text (refusals.Domain at) = (program : Program) × ReadsRaw bytes places (no_arrays places) program × (domain_of places text ≡ Err at)
+RefusesRaw bytes places text refusals.Unsupported = (program : Program) × ReadsRaw bytes places (no_arrays places) program × IsBeyond program places text
 RefusesRaw bytes places text _ = ⊥
 
 -- why an answer comes for the bytes of a raw body, with parameters of these places
 abbrev pub ExplainsRaw : List ℕ → List Place → List ℕ → Answer → Type 0
-ExplainsRaw bytes places text (answers.Found program f) = ReadsRaw bytes places program × Finds program places text f
+ExplainsRaw bytes places text (answers.Found program f) = ReadsRaw bytes places (no_arrays places) program × Finds program places text f
 ExplainsRaw bytes places text (answers.Refused why) = RefusesRaw bytes places text why
 ExplainsRaw bytes places text answers.Memory = Unit {0}
 
@@ -85,11 +88,10 @@ abbrev pub IsInForm : Option (List Place) → List ℕ → Type 0
 IsInForm None text = Unit {0}
 IsInForm (Some places) text = (16 < length places) ⊎ ((parts : List Part) × (domain_of places text ≡ Ok parts))
 
--- the method's body, the method, its program or the domain is of a form that isn't explored yet
+-- the method, its program or the domain is of a form that isn't explored yet
 abbrev pub IsUnsupported : View → pe.View → List ℕ → List ℕ → Type 0
 IsUnsupported v image name text =
-    ((at : ℕ) × (method : ℕ) × Blames v image name (faults.BadBody (body_faults.Bad Later at) method))
-    ⊎ ((params : Option (List Place)) × Blames v image name (faults.Later params) × IsInForm params text)
+    ((params : Option (List Place)) × Blames v image name (faults.Later params) × IsInForm params text)
     ⊎ ((program : Program) × Reads v image name program × IsBeyond program (params_of program) text)
 
 -- why a method of resolved metadata is refused, by its name: the first of these that fits
@@ -97,7 +99,7 @@ abbrev pub RefusesNamed : View → pe.View → List ℕ → List ℕ → Refusal
 RefusesNamed v image name text refusals.NoMethod = Blames v image name faults.NoMethod
 RefusesNamed v image name text refusals.Ambiguous = Blames v image name faults.Ambiguous
 RefusesNamed v image name text refusals.NoBody = Blames v image name faults.NoBody
-RefusesNamed v image name text (refusals.Body kind at method) = Blames v image name (faults.BadBody (body_faults.Bad kind at) method) × (kind ≢ Later)
+RefusesNamed v image name text (refusals.Body kind at method) = Blames v image name (faults.BadBody (body_faults.Bad kind at) method)
 RefusesNamed v image name text (refusals.Domain at) = (places : List Place) × HasPlaces v image name places × (domain_of places text ≡ Err at)
 RefusesNamed v image name text refusals.Unsupported = IsUnsupported v image name text
 RefusesNamed v image name text _ = ⊥

@@ -67,7 +67,8 @@ abbrev pub body_kind_text : BodyKind → List ℕ
 body_kind_text body_kinds.BadHeader = codes "BadHeader"
 body_kind_text body_kinds.Cut = codes "Cut"
 body_kind_text body_kinds.BadTarget = codes "BadTarget"
-body_kind_text body_kinds.Later = codes "Later"
+body_kind_text body_kinds.BadOpcode = codes "BadOpcode"
+body_kind_text body_kinds.BadClause = codes "BadClause"
 
 unfoldable pub body_line : BodyKind → ℕ → ℕ → List ℕ
 body_line kind at method = codes "refused body " ++ (body_kind_text kind ++ (codes " at " ++ (decimal at ++ (codes " method " ++ (decimal method ++ (codes "\n" ++ []))))))

@@ -2,7 +2,7 @@
 use Rattle.std.specs.Prelude.{◌≡◌, ◌≤◌, ℕ, zero, suc, ◌+◌, ◌==◌, ◌&&◌, ◌||◌, not, nat_eq, List, [], ◌∷◌, length, Bool, true, false, if◌then◌else◌, codes, Option, Some, None, is_some, slice_index}
 use Rattle.std.specs.List.{AllByRecursion, starts_with, ends_with}
 use Rattle.std.specs.Str.{bytes_eq}
-use Rattle.px_domain.specs.Place.{IsInteger}
+use Rattle.px_program.specs.Formed.{IsInteger}
 use Rattle.px_program.specs.declared.program.Place.{Place}
 use Rattle.px_program.specs.declared.program.Place.TheVariants.{I4}
 use Rattle.pex.specs.declared.words.Target.{Target}

@@ -3,7 +3,7 @@ ghost use Rattle.std.specs.Prelude.{◌≡◌, ◌<◌, ◌≤◌, ◌^◌, ℕ,
 ghost use Rattle.std.specs.List.{AllByRecursion};
 ghost use Rattle.px_domain.specs.Domain.{params_of, places_of};
 ghost use Rattle.px_domain.specs.Grammar.{domain_of};
-ghost use Rattle.px_domain.specs.Place.{IsInteger};
+ghost use Rattle.px_program.specs.Formed.{IsInteger};
 ghost use Rattle.px_program.specs.Formed.{IsWellFormed};
 ghost use Rattle.pex.specs.Answers.{Explains, Tells};
 ghost use Rattle.pex.specs.Words.{TakesIntegers};
@@ -19,7 +19,7 @@ use px_program::{Bounds, Limits, Program};
 use px_session::explore_one;
 use px_tables::TableFault;
 use px_tests::Findings;
-use px_verify::{Verified, simple};
+use px_verify::{SimpleFault, Verified, simple};
 use std::alloc::Global;
 
 /// Why what the words ask for isn't explored.
@@ -101,9 +101,10 @@ pub fn told(alloc: Global, program: Program, text: &str) -> Answer
         Err(DomainFault::Memory) => return Answer::Memory,
         Err(DomainFault::Bad { at }) => return Answer::Refused(Refusal::Domain(at)),
     };
-    match simple(program) {
+    match simple(alloc, program) {
         Ok(program) => explored(alloc, program, domain),
-        Err(_) => Answer::Refused(Refusal::Unsupported),
+        Err(SimpleFault::Memory) => Answer::Memory,
+        Err(SimpleFault::At(_)) => Answer::Refused(Refusal::Unsupported),
     }
 }
 

@@ -196,7 +196,7 @@ const REFUSED: [Case; 22] = [
     (
         &[(0x24B, &[0x5A])],
         "Demo.T::F",
-        "x",
+        "(0..9)",
         "refused unsupported\n",
     ),
     // an instance method, and one of an int64
@@ -251,6 +251,61 @@ fn assemblies_and_methods_are_refused(rt: HostRuntime) -> Result<(), Fail> {
         put(&mut file, pieces);
         let texts = ["explore", "f.bin", "Demo.T::F", "--domain", "x"];
         let (status, out) = call(alloc, &texts, file.as_slice(), 100)?;
+        assert_eq!(rt; status, Status::Refused, "{line}");
+        assert_eq!(rt; out.bytes(), line.as_bytes(), "{line}");
+    }
+    Ok(())
+}
+
+// Damaged copies, by the damage and the line; the places are those of the file for `pe`, of the metadata for `tables` and of the body for `body`.
+const DAMAGED: [(Piece, &'static str); 32] = [
+    // the marks of the image and of its form, a form of 64 bits, and fourteen directories
+    ((0x040, b"NE"), "refused pe NotPe at 64\n"),
+    ((0x058, &[0x0C]), "refused pe NotPe at 88\n"),
+    ((0x059, &[0x02]), "refused pe NoCliHeader at 196\n"),
+    ((0x0B4, &[14]), "refused pe NoCliHeader at 180\n"),
+    // no section, eight of them, headers behind the file, and data behind it
+    ((0x046, &[0]), "refused pe NoCliHeader at 296\n"),
+    ((0x046, &[8]), "refused pe BadSections at 592\n"),
+    ((0x054, &[0xFF, 0xFF]), "refused pe Cut at 65623\n"),
+    ((0x14D, &[3]), "refused pe BadSections at 312\n"),
+    // a CLI header of which the section has a part, and metadata that are too long
+    ((0x129, &[0x21]), "refused pe NoCliHeader at 296\n"),
+    ((0x20D, &[0xFF]), "refused pe MetadataOutside at 520\n"),
+    // the text of the version, and the number, sizes and names of streams
+    ((0x260, &[0xFF]), "refused tables Cut at 16\n"),
+    ((0x272, &[4]), "refused tables Cut at 80\n"),
+    ((0x272, &[2]), "refused tables NoStream at 32\n"),
+    ((0x27D, b"-"), "refused tables NoStream at 32\n"),
+    ((0x284, &[0xFF]), "refused tables Cut at 44\n"),
+    // the tables' version, and their stream without its mask, its second count and its last row
+    ((0x2CC, &[3]), "refused tables BadVersion at 120\n"),
+    ((0x278, &[8]), "refused tables Cut at 124\n"),
+    ((0x278, &[28]), "refused tables Cut at 144\n"),
+    ((0x278, &[80]), "refused tables Cut at 190\n"),
+    // a base that is no row, and of no table; lists of methods, fields and parameters behind their tables
+    ((0x30C, &[12]), "refused tables BadIndex at 184\n"),
+    ((0x30C, &[7]), "refused tables BadIndex at 184\n"),
+    ((0x310, &[3]), "refused tables BadIndex at 188\n"),
+    ((0x30E, &[2]), "refused tables BadIndex at 186\n"),
+    ((0x31E, &[2]), "refused tables BadIndex at 202\n"),
+    // a method's name and signature, a type's name, lists that go back, and a type on itself
+    ((0x31A, &[200]), "refused meta BadToken token 100663297\n"),
+    ((0x31C, &[15]), "refused meta BadToken token 100663297\n"),
+    ((0x308, &[100]), "refused meta BadToken token 33554434\n"),
+    ((0x302, &[2]), "refused meta BadList token 33554433\n"),
+    ((0x30C, &[8]), "refused meta CycleOfBases token 33554434\n"),
+    // a byte that is no opcode, a branch behind the code, and a constant without its byte
+    ((0x24B, &[0x24]), "refused body BadOpcode at 3 method 0\n"),
+    ((0x24C, &[10]), "refused body BadTarget at 3 method 0\n"),
+    ((0x250, &[0x1F]), "refused body Cut at 9 method 0\n"),
+];
+
+#[test]
+fn damage_is_told_with_its_place(rt: HostRuntime) -> Result<(), Fail> {
+    let alloc = rt.alloc();
+    for (damage, line) in DAMAGED {
+        let (status, out) = explore(alloc, &[damage], "Demo.T::F", "x")?;
         assert_eq!(rt; status, Status::Refused, "{line}");
         assert_eq!(rt; out.bytes(), line.as_bytes(), "{line}");
     }

@@ -3,7 +3,7 @@ ghost use Rattle.std.specs.Prelude.{◌≡◌, ◌≢◌, ◌<◌, ◌≤◌, �
 ghost use Rattle.std.specs.List.{AllByRecursion};
 ghost use Rattle.px_code.specs.declared.body.BodyFault.TheVariants as body_faults;
 ghost use Rattle.px_domain.specs.Domain.{params_of};
-ghost use Rattle.px_domain.specs.Place.{IsInteger};
+ghost use Rattle.px_program.specs.Formed.{IsInteger};
 ghost use Rattle.px_link.specs.Link.{Blames};
 ghost use Rattle.px_pe.specs.Image.{image_of};
 ghost use Rattle.px_pe.specs.Image as pe;
@@ -11,7 +11,7 @@ ghost use Rattle.px_tables.specs.Metadata.{View, metadata_of};
 ghost use Rattle.pex.specs.Answers.{ExplainsMethod, ExplainsNamed, IsAssembly, metadata_in};
 
 use crate::answer::{Answer, Refusal, told};
-use px_code::{BodyFault, BodyKind};
+use px_code::BodyFault;
 use px_domain::{DomainFault, read_domain};
 use px_link::{LinkFault, link};
 use px_meta::{Meta, MetaFault, resolve};
@@ -27,12 +27,7 @@ fn bad_body(fault: BodyFault, method: u32) -> Answer
 {
     match fault {
         BodyFault::Memory => Answer::Memory,
-        BodyFault::Bad { kind, at } => match kind {
-            BodyKind::Later => Answer::Refused(Refusal::Unsupported),
-            BodyKind::BadHeader | BodyKind::Cut | BodyKind::BadTarget => {
-                Answer::Refused(Refusal::Body(kind, at, method))
-            }
-        },
+        BodyFault::Bad { kind, at } => Answer::Refused(Refusal::Body(kind, at, method)),
     }
 }
 
@@ -86,8 +81,9 @@ fn later(alloc: Global, params: Option<Items<Place>>, text: &str) -> Answer
     ensures { (v : View) (image : pe.View) (name : List ℕ) → Blames v image name (LinkFault.Later params) → ExplainsNamed v image name text.now result }
 {
     match params {
+        None => Answer::Refused(Refusal::Unsupported),
         Some(params) if params.len() <= 16 => judged(alloc, params, text),
-        _ => Answer::Refused(Refusal::Unsupported),
+        Some(_) => Answer::Refused(Refusal::Unsupported),
     }
 }
 

@@ -1,15 +1,53 @@
 // What the bytes of a raw body give.
-ghost use Rattle.std.specs.Prelude.{◌≡◌, ◌<◌, ◌≤◌, ◌^◌, ℕ, List, Ok, Err, length};
+ghost use Rattle.std.specs.Prelude.{◌≡◌, ◌<◌, ◌≤◌, ◌^◌, ℕ, List, Ok, IfErr, IfOk, length};
 ghost use Rattle.std.specs.List.{AllByRecursion};
 ghost use Rattle.px_code.specs.Body.{IsFormed, body_of};
-ghost use Rattle.px_domain.specs.Place.{IsInteger};
-ghost use Rattle.pex.specs.Answers.{ExplainsRaw};
+ghost use Rattle.px_link.specs.Link.{BlamesRaw};
+ghost use Rattle.px_link.specs.Raw.{program_of};
+ghost use Rattle.px_program.specs.Formed.{IsInteger, IsWellFormed};
+ghost use Rattle.pex.specs.Answers.{ExplainsRaw, no_arrays};
 
 use crate::answer::{Answer, Refusal, told};
-use px_code::{Body, BodyFault, BodyKind, read_body};
+use px_code::{Body, BodyFault, read_body};
 use px_link::{LinkFault, link_raw};
-use px_program::Place;
-use std::alloc::Global;
+use px_program::{Place, Program};
+use std::alloc::{AllocError, Global};
+
+// No parameter is an array.
+fn no_arrays(alloc: Global, places: &[Place]) -> Result<Vec<bool>, AllocError>
+    ensures { IfOk result (λ arrays. arrays.items ≡ no_arrays places.now) }
+{
+    places.iter().map(|_| false).collect(alloc)
+}
+
+// The program of a body none of whose parameters is an array.
+fn program_of(alloc: Global, body: &Body, places: &[Place]) -> Result<Program, LinkFault>
+    requires formed { IsFormed body.now }
+    requires few { length places.now ≤ 16 }
+    requires integers { AllByRecursion IsInteger places.now }
+    ensures program { IfOk result (λ p. p ≡ program_of body.now places.now (no_arrays places.now)) }
+    ensures well_formed { IfOk result IsWellFormed }
+    ensures no_locals { IfOk result (λ _. body.now.locals_token ≡ 0) }
+    ensures fault { IfErr result (BlamesRaw body.now) }
+{
+    let arrays = no_arrays(alloc, places)?;
+    link_raw(alloc, body, places, &arrays)
+}
+
+// The answer to a body that isn't linked.
+fn unlinked(fault: LinkFault) -> Answer
+    ensures { (bytes : List ℕ) (places : List Place) (text : List ℕ) (body : Body) → body_of bytes ≡ Ok body → BlamesRaw body fault → ExplainsRaw bytes places text result }
+{
+    match fault {
+        LinkFault::RawLocals => Answer::Refused(Refusal::RawLocals),
+        LinkFault::Memory
+        | LinkFault::NoMethod
+        | LinkFault::Ambiguous
+        | LinkFault::NoBody
+        | LinkFault::BadBody { .. }
+        | LinkFault::Later { .. } => Answer::Memory,
+    }
+}
 
 // What a body gives over the domain of the text.
 fn linked(alloc: Global, body: &Body, places: &[Place], text: &str) -> Answer
@@ -19,22 +57,9 @@ fn linked(alloc: Global, body: &Body, places: &[Place], text: &str) -> Answer
     requires integers { AllByRecursion IsInteger places.now }
     ensures { (bytes : List ℕ) → body_of bytes ≡ Ok body.now → ExplainsRaw bytes places.now text.now result }
 {
-    match link_raw(alloc, body, places) {
+    match program_of(alloc, body, places) {
         Ok(program) => told(alloc, program, text),
-        Err(LinkFault::RawLocals) => Answer::Refused(Refusal::RawLocals),
-        Err(_) => Answer::Memory,
-    }
-}
-
-// The answer to a body's fault.
-fn refused(kind: BodyKind, at: u32) -> Answer
-    ensures { (bytes : List ℕ) (places : List Place) (text : List ℕ) → body_of bytes ≡ Err (kind, at) → ExplainsRaw bytes places text result }
-{
-    match kind {
-        BodyKind::Later => Answer::Refused(Refusal::Unsupported),
-        BodyKind::BadHeader | BodyKind::Cut | BodyKind::BadTarget => {
-            Answer::Refused(Refusal::Body(kind, at, 0))
-        }
+        Err(fault) => unlinked(fault),
     }
 }
 
@@ -50,6 +75,6 @@ pub fn answer_of_raw(alloc: Global, bytes: &[u8], places: &[Place], text: &str) 
     match read_body(alloc, bytes) {
         Ok(body) => linked(alloc, &body, places, text),
         Err(BodyFault::Memory) => Answer::Memory,
-        Err(BodyFault::Bad { kind, at }) => refused(kind, at),
+        Err(BodyFault::Bad { kind, at }) => Answer::Refused(Refusal::Body(kind, at, 0)),
     }
 }

@@ -122,7 +122,8 @@ fn body_kind_text(kind: BodyKind) -> &'static str
         BodyKind::BadHeader => "BadHeader",
         BodyKind::Cut => "Cut",
         BodyKind::BadTarget => "BadTarget",
-        BodyKind::Later => "Later",
+        BodyKind::BadOpcode => "BadOpcode",
+        BodyKind::BadClause => "BadClause",
     }
 }
 

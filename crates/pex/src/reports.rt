@@ -105,7 +105,40 @@ type Case = (
     (u32, u32, u32),
 );
 
-const CASES: [Case; 22] = [
+const CASES: [Case; 26] = [
+    // the same body behind a header of twelve bytes, and with a long target
+    (
+        &[
+            0x03, 0x30, 8, 0, 8, 0, 0, 0, 0, 0, 0, 0, 0x02, 0x1D, 0x2E, 0x02, 0x16, 0x2A, 0x17,
+            0x2A,
+        ],
+        "int32",
+        "(0..5)",
+        "test 0 args (0) path 0:2:B:0 end returned 0\n",
+        (1, 1, 0),
+    ),
+    (
+        &[0x2E, 0x02, 0x1D, 0x3B, 2, 0, 0, 0, 0x16, 0x2A, 0x17, 0x2A],
+        "int32",
+        "(7..7)",
+        "test 0 args (7) path 0:2:B:1 end returned 1\n",
+        (1, 1, 0),
+    ),
+    // an argument by its number in one byte and in two
+    (
+        &[0x0E, 0x0E, 0x00, 0x2A],
+        "int32",
+        "(5..5)",
+        "test 0 args (5) path - end returned 5\n",
+        (1, 0, 0),
+    ),
+    (
+        &[0x16, 0xFE, 0x09, 0x00, 0x00, 0x2A],
+        "int32",
+        "(5..5)",
+        "test 0 args (5) path - end returned 5\n",
+        (1, 0, 0),
+    ),
     (
         IS_SEVEN,
         "int32",

@@ -66,7 +66,7 @@ fn a_body_gets_its_report_and_a_full_sink_a_front_of_it(rt: HostRuntime) -> Resu
 }
 
 // The parameters, the domain, the bytes, and the line.
-const REFUSED: [(&'static str, &'static str, &'static [u8], &'static str); 18] = [
+const REFUSED: [(&'static str, &'static str, &'static [u8], &'static str); 22] = [
     ("int32", "(5..4)", IS_SEVEN, "refused domain at 1\n"),
     ("int32", "x", IS_SEVEN, "refused domain at 0\n"),
     ("int32", "(0..9)(0..9)", IS_SEVEN, "refused domain at 6\n"),
@@ -108,7 +108,36 @@ const REFUSED: [(&'static str, &'static str, &'static [u8], &'static str); 18] =
         "int32",
         "(5..4)",
         &[0x12, 0x02, 0x02, 0x5A, 0x2A],
-        "refused unsupported\n",
+        "refused domain at 1\n",
+    ),
+    // A byte that is no opcode, and one behind 0xFE.
+    (
+        "int32",
+        "(0..9)",
+        &[0x0A, 0x24, 0x2A],
+        "refused body BadOpcode at 1 method 0\n",
+    ),
+    (
+        "int32",
+        "(0..9)",
+        &[0x0E, 0xFE, 0x08, 0x2A],
+        "refused body BadOpcode at 2 method 0\n",
+    ),
+    // A clause of flags 3 behind the code, and a signature of locals.
+    (
+        "int32",
+        "(0..9)",
+        &[
+            0x0B, 0x30, 8, 0, 1, 0, 0, 0, 0, 0, 0, 0, 0x2A, 0, 0, 0, 1, 16, 0, 0, 3, 0, 0, 0, 1, 0,
+            0, 1, 0, 0, 0, 0,
+        ],
+        "refused body BadClause at 20 method 0\n",
+    ),
+    (
+        "int32",
+        "x",
+        &[0x03, 0x30, 8, 0, 1, 0, 0, 0, 1, 0, 0, 0x11, 0x2A],
+        "refused method RawLocals\n",
     ),
     // `add` without operands.
     ("-", "-", &[0x0A, 0x58, 0x2A], "refused unsupported\n"),

@@ -1,7 +1,7 @@
 // The words of the command line: `explore-raw FILE PARAMS --domain TEXT` and `explore FILE METHOD --domain TEXT`.
 ghost use Rattle.std.specs.Prelude.{◌≡◌, ◌<◌, ◌≤◌, ◌^◌, None, length, is_some, option_copied, true, IfOk, IfSome, MatchResult, Some};
 ghost use Rattle.std.specs.List.{AllByRecursion};
-ghost use Rattle.px_domain.specs.Place.{IsInteger};
+ghost use Rattle.px_program.specs.Formed.{IsInteger};
 ghost use Rattle.pex.specs.Words.{AsksFor, IsTyped, TakesIntegers, begins_with_pair, command_in, command_of, fits, is_command, is_file, is_filled, is_method, is_target, misfit, pairs_in, places_by, word_of};
 
 use px_io::Word;

@@ -11,10 +11,12 @@ pub enum BodyKind {
     BadHeader,
     /// The bytes end before the body does.
     Cut,
+    /// A byte, or the one behind 0xFE, that is no opcode.
+    BadOpcode,
     /// A branch leads to a place at which no instruction starts.
     BadTarget,
-    /// A form of header or an opcode that isn't read yet.
-    Later,
+    /// A clause of no known kind, or with a range that is empty or doesn't begin and end at instructions.
+    BadClause,
 }
 
 /// Why a body isn't read: want of memory, or what is wrong and at which byte, counted from the header.
@@ -53,15 +55,16 @@ impl<T: Drop> From<AllocFailed<T>> for BodyFault {
     }
 }
 
-/// What follows an opcode, by its size in bytes: a number, or how far a branch leads.
+/// What follows an opcode, by its size in bytes: a number, or how far a branch leads. A switch has a count of targets, and these.
 #[derive(Clone, Copy, Debug, PartialEq, Eq)]
 pub enum Operand {
     Number(u32),
     Target(u32),
+    Switch,
 }
 
-/// An instruction as it stands in the code, at its offset; `next` is the offset behind it.
-/// The operand is its bytes as a number, the low byte first; it is 0 where there is none and where it is a target.
+/// An instruction as it stands in the code, at its offset; `next` is the offset behind it. An opcode behind 0xFE is 0xFE00 plus its second byte.
+/// The operand is its bytes as a number, the low byte first; it is 0 where there is none, where it is a target, and for a switch. Targets are offsets.
 #[derive(Drop)]
 pub struct RawInstr {
     pub offset: u32,
@@ -71,7 +74,8 @@ pub struct RawInstr {
     pub targets: Items<u32>,
 }
 
-/// A clause of a protected range as it stands behind the code: Partition II, 25.4.6. `to` and `stop` are the ends of the two ranges.
+/// A clause of a protected range as it stands behind the code: Partition II, 25.4.6. `to` and `stop` are the ends of the two ranges,
+/// and `class` is the token of the class that a catch is for, or where a filter starts. Flags: 0 catch, 1 filter, 2 finally, 4 fault.
 #[derive(Clone, Copy, Debug, PartialEq, Eq)]
 pub struct RawClause {
     pub flags: u32,

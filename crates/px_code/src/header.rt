@@ -5,9 +5,9 @@ ghost use Rattle.px_code.specs.Body.{fat_code, header_of, tiny_code};
 ghost use Rattle.px_code.specs.Parts.{IsWithin, shown};
 
 use crate::body::{BodyFault, BodyKind};
-use crate::bytes::little_endian;
+use crate::bytes::number_at;
 
-/// What the header of a body says, and the code behind it, which begins `base` bytes after the header does.
+/// What the header of a body says, and the code behind it, which begins `base` bytes after the header does. Sections follow where `more`.
 #[derive(Clone, Copy)]
 pub struct Header<'a> {
     pub max_stack: u16,
@@ -15,6 +15,7 @@ pub struct Header<'a> {
     pub locals_token: u32,
     pub base: u32,
     pub code: &'a [u8],
+    pub more: bool,
 }
 
 // The code behind a header of one byte.
@@ -36,6 +37,7 @@ fn tiny_code(bytes: &[u8], size: usize) -> Result<Header<'_>, BodyFault>
             locals_token: 0,
             base: 1,
             code: &bytes[1..1 + size],
+            more: false,
         })
     }
 }
@@ -51,13 +53,20 @@ fn fat_code(bytes: &[u8]) -> Result<Header<'_>, BodyFault>
     if bytes.len() < 12 {
         return Err(cut);
     }
-    let size = little_endian(&bytes[4..8]);
+    let size = number_at(bytes, 4, 4) as usize;
     if bytes[1] / 16 != 3 || size == 0 {
         Err(BodyKind::BadHeader.at(0))
-    } else if (bytes.len() as u64) < 12 + size {
+    } else if bytes.len() < 12 + size {
         Err(cut)
     } else {
-        Err(BodyKind::Later.at(0))
+        Ok(Header {
+            max_stack: number_at(bytes, 2, 2) as u16,
+            init_locals: bytes[0] / 16 % 2 == 1,
+            locals_token: number_at(bytes, 8, 4) as u32,
+            base: 12,
+            code: &bytes[12..12 + size],
+            more: bytes[0] / 8 % 2 == 1,
+        })
     }
 }
 

@@ -3,9 +3,13 @@
 
 mod body;
 mod bytes;
+mod clause;
 mod header;
 mod instr;
+mod offsets;
+mod opcode;
 mod read;
+mod section;
 #[cfg(test)]
 mod tests;
 

@@ -1,12 +1,16 @@
 // Reads a body from its bytes.
-ghost use Rattle.std.specs.Prelude.{◌≡◌, ◌≢◌, ◌+◌, ◌<◌, ◌^◌, [], length, All, Contains, IfOk, IfSome};
-ghost use Rattle.std.specs.Option.{option_copied};
+ghost use Rattle.std.specs.Prelude.{◌≡◌, ◌≢◌, ◌+◌, ◌<◌, ◌≤◌, ◌^◌, true, [], length, All, IfOk};
 ghost use Rattle.px_code.specs.Reading.{Gives};
-ghost use Rattle.px_code.specs.Body.{body_of, first_bad, instrs_from, is_start, leads_well, Follow, IsFormed};
+ghost use Rattle.px_code.specs.Body.{body_of, clauses_of, instrs_from, is_placed, Follow, IsFormed};
+ghost use Rattle.std.specs.List.{list_all};
+ghost use Rattle.px_code.specs.Parts.{shown, IsWithin};
 
-use crate::body::{Body, BodyFault, BodyKind, RawInstr};
-use crate::header::header_of;
+use crate::body::{Body, BodyFault, BodyKind, RawClause, RawInstr};
+use crate::bytes::aligned;
+use crate::header::{Header, header_of};
 use crate::instr::instr_at;
+use crate::offsets::first_bad;
+use crate::section::sections_from;
 use sqlite_items::Items;
 use std::alloc::Global;
 
@@ -28,36 +32,30 @@ fn instrs_of(alloc: Global, base: u32, code: &[u8]) -> Result<Vec<RawInstr>, Bod
     Ok(instrs)
 }
 
-// Whether an instruction starts at the offset.
-fn is_start(instrs: &[RawInstr], at: u32) -> bool
-    requires { Follow 0 instrs.now }
-    ensures { result ≡ is_start instrs.now at }
+// The clauses of the sections behind the code, where there are any.
+fn clauses_of(
+    alloc: Global,
+    header: &Header,
+    instrs: &[RawInstr],
+    bytes: &[u8],
+) -> Result<Vec<RawClause>, BodyFault>
+    requires short { length bytes.now < 2 ^ 31 }
+    requires within { IsWithin header.now bytes.now }
+    requires some { 0 < length header.now.code.now }
+    requires follow { Follow 0 instrs.now }
+    ensures gives { Gives (λ clauses. clauses.items) result (clauses_of (shown header.now) instrs.now bytes.now) }
+    ensures placed { IfOk result (λ clauses. list_all (is_placed instrs.now) clauses.items ≡ true) }
+    ensures few { IfOk result (λ clauses. length clauses.items < 2 ^ 32) }
 {
-    instrs
-        .binary_search_by_key(&at, |instr| instr.offset)
-        .is_ok()
-}
-
-// Whether each target of the instruction is the start of one.
-fn leads_well(instrs: &[RawInstr], instr: &RawInstr) -> bool
-    requires { Follow 0 instrs.now }
-    ensures { result ≡ leads_well instrs.now instr.now }
-{
-    let targets = instr.targets.as_slice();
-    targets.iter().all(|target| is_start(instrs, *target))
-}
-
-// The first instruction with a target at which none starts.
-fn first_bad(instrs: &[RawInstr]) -> Option<&RawInstr>
-    requires { Follow 0 instrs.now }
-    ensures first { option_copied result ≡ first_bad instrs.now }
-    ensures found { IfSome result (λ instr. Contains instrs.now instr.now) }
-{
-    instrs.iter().find(|instr| !leads_well(instrs, instr))
+    if !header.more {
+        return Ok(Vec::new(alloc));
+    }
+    let behind = header.base as usize + header.code.len();
+    sections_from(alloc, instrs, bytes, aligned(behind))
 }
 
 /// Reads the body that the bytes begin with; bytes behind it aren't looked at.
-/// The fault is the first one in this order: the header, the bytes of the code, the opcodes by offset, the branches by offset.
+/// The fault is the first one in this order: the header, the bytes of the code, the opcodes by offset, the branches by offset, the clauses.
 #[tactic(auto, unfolding(crate::specs::Body::body_of))]
 pub fn read_body(alloc: Global, bytes: &[u8]) -> Result<Body, BodyFault>
     requires { length bytes.now < 2 ^ 31 }
@@ -68,12 +66,15 @@ pub fn read_body(alloc: Global, bytes: &[u8]) -> Result<Body, BodyFault>
     let instrs = instrs_of(alloc, header.base, header.code)?;
     match first_bad(instrs.as_slice()) {
         Some(instr) => Err(BodyKind::BadTarget.at(header.base + instr.offset)),
-        None => Ok(Body {
-            max_stack: header.max_stack,
-            init_locals: header.init_locals,
-            locals_token: header.locals_token,
-            code: Items::from_vec(instrs),
-            clauses: Items::new(alloc),
-        }),
+        None => {
+            let clauses = clauses_of(alloc, &header, instrs.as_slice(), bytes)?;
+            Ok(Body {
+                max_stack: header.max_stack,
+                init_locals: header.init_locals,
+                locals_token: header.locals_token,
+                code: Items::from_vec(instrs),
+                clauses: Items::from_vec(clauses),
+            })
+        }
     }
 }

@@ -4,22 +4,6 @@ use Rattle.std.specs.Int.{Width, w32, w64, cast_signed, cast_unsigned}
 use Rattle.px_program.specs.declared.program.Place.{Place}
 use Rattle.px_program.specs.declared.program.Place.TheVariants as places
 
--- a place that holds an integer and no reference
-abbrev pub IsInteger : Place → Type 0
-IsInteger (places.Ref class) = ⊥
-IsInteger places.Bool = Unit {0}
-IsInteger places.Char = Unit {0}
-IsInteger places.I1 = Unit {0}
-IsInteger places.U1 = Unit {0}
-IsInteger places.I2 = Unit {0}
-IsInteger places.U2 = Unit {0}
-IsInteger places.I4 = Unit {0}
-IsInteger places.U4 = Unit {0}
-IsInteger places.I8 = Unit {0}
-IsInteger places.U8 = Unit {0}
-IsInteger places.N = Unit {0}
-IsInteger places.UN = Unit {0}
-
 -- its argument word has 64 bits, and else 32
 abbrev pub is_wide : Place → Bool
 is_wide places.I8 = true

@@ -1,9 +1,9 @@
 // Reads a domain from its text.
 ghost use Rattle.std.specs.Prelude.{◌≡◌, ◌<◌, ◌≤◌, ◌^◌, length, Ok, IfOk};
 ghost use Rattle.std.specs.List.{AllByRecursion};
+ghost use Rattle.px_program.specs.Formed.{IsInteger};
 ghost use Rattle.px_domain.specs.Domain.{params_of, places_of};
 ghost use Rattle.px_domain.specs.Grammar.{Gives, domain_of, empty_domain, groups_at};
-ghost use Rattle.px_domain.specs.Place.{IsInteger};
 ghost use Rattle.px_domain.specs.Text.{domain_text};
 
 use crate::cursor::Cursor;

@@ -1,8 +1,8 @@
 // What no clause says: that calls succeed with ample memory, and the places and the order that are meant.
 ghost use Rattle.std.specs.Prelude.{◌≡◌, ◌<◌, ◌≤◌, ◌^◌, length, IfOk};
 ghost use Rattle.std.specs.List.{AllByRecursion};
+ghost use Rattle.px_program.specs.Formed.{IsInteger};
 ghost use Rattle.px_domain.specs.Domain.{params_of};
-ghost use Rattle.px_domain.specs.Place.{IsInteger};
 
 use crate::{Domain, DomainFault, Part, read_domain};
 use px_program::{Method, Place, Program};

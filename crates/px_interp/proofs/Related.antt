@@ -211,19 +211,29 @@ module _ {P W Q V : Type 0} (a : Algebra P W) (b : Algebra Q V) (pools : P → Q
       move_alike (moves.Constant true pattern) next p q xs ys known po ar st = cc
       move_alike (moves.Constant false pattern) next p q xs ys known po ar st =
           pushed_alike next p _ _ xs ys (law.stays p (op.Const false pattern) []) (constant_alike false pattern p q known.1 po) ar st
+      move_alike _ next p q xs ys known po ar st = absurd known
+
+      -- an operator of two 32 bits that has one as its result
+      abbrev TwoAlike : Op → P → Q → Type 0
+      TwoAlike o p q = (x x' : W) (y y' : V) → alike p 32 x y → alike p 32 x' y' → AlikeMade 32 (on_two a o x x' p) (on_two b o y y' q)
+
+      operator_alike : (o : Op) (next : ℕ) (p : P) (q : Q) (xs : List W) (ys : List V) → TwoAlike o p q → pools p q → PairsAt (alike p) (map word_bits method.params) args args' → Pairs (alike p 32) xs ys
+          → AlikeSteps method.params args args' (on_arithmetic a (Some o) next xs p) (on_arithmetic b (Some o) next ys q)
+      operator_alike o next p q [] [] two po ar st = po
+      operator_alike o next p q (x ∷ []) (y ∷ []) two po ar st = po
+      operator_alike o next p q (x' ∷ x ∷ xs) (y' ∷ y ∷ ys) two po ar st = pushed_alike next p _ _ xs ys (law.stays p _ _) (two x x' y y' st.1.0 st.0) ar st.1.1
+      operator_alike o next p q [] (y ∷ ys) two po ar st = absurd st
+      operator_alike o next p q (x ∷ xs) [] two po ar st = absurd st
+      operator_alike o next p q (x' ∷ []) (y' ∷ y ∷ ys) two po ar st = absurd st.1
+      operator_alike o next p q (x' ∷ x ∷ xs) (y' ∷ []) two po ar st = absurd st.1
 
       arithmetic_alike : (operation : Arithmetic) (next : ℕ) (p : P) (q : Q) (xs : List W) (ys : List V) → pools p q → PairsAt (alike p) (map word_bits method.params) args args' → Pairs (alike p 32) xs ys
           → AlikeSteps method.params args args' (on_arithmetic a (operator_of operation) next xs p) (on_arithmetic b (operator_of operation) next ys q)
-      arithmetic_alike operation next p q [] [] po ar st = po
-      arithmetic_alike operation next p q (x ∷ []) (y ∷ []) po ar st = po
-      arithmetic_alike arithmetic.Add next p q (x' ∷ x ∷ xs) (y' ∷ y ∷ ys) po ar st =
-          pushed_alike next p _ _ xs ys (law.stays p _ _) (two_alike (op.Add false) p q x x' y y' tt po (st.1.0, (st.0, tt))) ar st.1.1
-      arithmetic_alike arithmetic.Sub next p q (x' ∷ x ∷ xs) (y' ∷ y ∷ ys) po ar st =
-          pushed_alike next p _ _ xs ys (law.stays p _ _) (two_alike (op.Sub false) p q x x' y y' tt po (st.1.0, (st.0, tt))) ar st.1.1
-      arithmetic_alike operation next p q [] (y ∷ ys) po ar st = absurd st
-      arithmetic_alike operation next p q (x ∷ xs) [] po ar st = absurd st
-      arithmetic_alike operation next p q (x' ∷ []) (y' ∷ y ∷ ys) po ar st = absurd st.1
-      arithmetic_alike operation next p q (x' ∷ x ∷ xs) (y' ∷ []) po ar st = absurd st.1
+      arithmetic_alike arithmetic.Add next p q xs ys po ar st =
+          operator_alike (op.Add false) next p q xs ys (λ x x' y y' h h'. two_alike (op.Add false) p q x x' y y' tt po (h, (h', tt))) po ar st
+      arithmetic_alike arithmetic.Sub next p q xs ys po ar st =
+          operator_alike (op.Sub false) next p q xs ys (λ x x' y y' h h'. two_alike (op.Sub false) p q x x' y y' tt po (h, (h', tt))) po ar st
+      arithmetic_alike _ next p q xs ys po ar st = po
 
       truth_alike : (test : Test) (number offset next target : ℕ) (p : P) (q : Q) (xs : List W) (ys : List V) → pools p q → PairsAt (alike p) (map word_bits method.params) args args' → Pairs (alike p 32) xs ys
           → AlikeSteps method.params args args' (on_truth a number offset next target (compare_of test true) xs p) (on_truth b number offset next target (compare_of test true) ys q)
@@ -257,7 +267,7 @@ module _ {P W Q V : Type 0} (a : Algebra P W) (b : Algebra Q V) (pools : P → Q
       -- ONE CASE FOR EACH ROW
       pub row_alike : (code : Code) (number offset next : ℕ) (p : P) (q : Q) (xs : List W) (ys : List V) → NamesValue method code → pools p q → PairsAt (alike p) (map word_bits method.params) args args' → Pairs (alike p 32) xs ys
           → AlikeSteps method.params args args' (row a code number offset next args xs p) (row b code number offset next args' ys q)
-      row_alike codes.Nop number offset next p q xs ys known po ar st = go_alike next p q xs ys po ar st
+      row_alike (codes.Nop is_break) number offset next p q xs ys known po ar st = go_alike next p q xs ys po ar st
       row_alike (codes.Move move) number offset next p q xs ys known po ar st = move_alike move next p q xs ys known po ar st
       row_alike (codes.Arithmetic operation) number offset next p q xs ys known po ar st = arithmetic_alike operation next p q xs ys po ar st
       row_alike (codes.Branch target) number offset next p q xs ys known po ar st = go_alike target p q xs ys po ar st
@@ -266,6 +276,7 @@ module _ {P W Q V : Type 0} (a : Algebra P W) (b : Algebra Q V) (pools : P → Q
       row_alike (codes.BranchCompare test signed target) number offset next p q xs ys known po ar st = compare_alike test signed number offset next target p q xs ys po ar st
       row_alike codes.Return number offset next p q xs ys known po ar st = return_alike p q xs ys po st
       row_alike (codes.Outside name opcode) number offset next p q xs ys known po ar st = (po, ((refl, refl), tt))
+      row_alike _ number offset next p q xs ys known po ar st = po
 
       -- a rest of the run in which alike scalars stay so
       abbrev pub Keeps : (State P W → Outcome P W) → Type 0
@@ -287,11 +298,13 @@ module _ {P W Q V : Type 0} (a : Algebra P W) (b : Algebra Q V) (pools : P → Q
       stays_move : (move : Move) (next : ℕ) (xs : List W) (p : P) (go : State P W → Outcome P W) → Keeps go → Stays p (behind a (on_move a move args next xs p) go).pool
       stays_move (moves.Argument n) next xs p go f = stays_argument (slice_get args n) next xs p go f
       stays_move (moves.Constant wide pattern) next xs p go f = through p _ _ (law.stays p _ _) (f _)
+      stays_move _ next xs p go f = kept p
 
-      stays_arithmetic : (o : Op) (next : ℕ) (xs : List W) (p : P) (go : State P W → Outcome P W) → Keeps go → Stays p (behind a (on_arithmetic a o next xs p) go).pool
-      stays_arithmetic o next [] p go f = kept p
-      stays_arithmetic o next (x' ∷ []) p go f = kept p
-      stays_arithmetic o next (x' ∷ x ∷ xs) p go f = through p _ _ (law.stays p _ _) (f _)
+      stays_arithmetic : (o : Option Op) (next : ℕ) (xs : List W) (p : P) (go : State P W → Outcome P W) → Keeps go → Stays p (behind a (on_arithmetic a o next xs p) go).pool
+      stays_arithmetic (Some o) next [] p go f = kept p
+      stays_arithmetic (Some o) next (x' ∷ []) p go f = kept p
+      stays_arithmetic (Some o) next (x' ∷ x ∷ xs) p go f = through p _ _ (law.stays p _ _) (f _)
+      stays_arithmetic None next xs p go f = kept p
 
       stays_truth : (number offset next target : ℕ) (compare : Compare) (xs : List W) (p : P) (go : State P W → Outcome P W) → Keeps go → Stays p (behind a (on_truth a number offset next target compare xs p) go).pool
       stays_truth number offset next target compare [] p go f = kept p
@@ -309,7 +322,7 @@ module _ {P W Q V : Type 0} (a : Algebra P W) (b : Algebra Q V) (pools : P → Q
 
       -- what was alike stays so in the last pool, whatever the run does: one case for each row
       stays_row : (code : Code) (number offset next : ℕ) (xs : List W) (p : P) (go : State P W → Outcome P W) → Keeps go → Stays p (behind a (row a code number offset next args xs p) go).pool
-      stays_row codes.Nop number offset next xs p go f = f _
+      stays_row (codes.Nop is_break) number offset next xs p go f = f _
       stays_row (codes.Move move) number offset next xs p go f = stays_move move next xs p go f
       stays_row (codes.Arithmetic operation) number offset next xs p go f = stays_arithmetic (operator_of operation) next xs p go f
       stays_row (codes.Branch target) number offset next xs p go f = f _
@@ -317,6 +330,7 @@ module _ {P W Q V : Type 0} (a : Algebra P W) (b : Algebra Q V) (pools : P → Q
       stays_row (codes.BranchCompare test signed target) number offset next xs p go f = stays_compare number offset next target (compare_of test signed) xs p go f
       stays_row codes.Return number offset next xs p go f = stays_return xs p go
       stays_row (codes.Outside name opcode) number offset next xs p go f = kept p
+      stays_row _ number offset next xs p go f = kept p
 
       stays_step : (i : Option Instr) (number : ℕ) (s : State P W) (go : State P W → Outcome P W) → Keeps go → Stays s.pool (behind a (row_at a i number args s) go).pool
       stays_step None number s go f = kept s.pool

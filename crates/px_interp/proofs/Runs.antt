@@ -1,9 +1,11 @@
 -- A run, one step at a time.
-use Rattle.std.proofs.Common.{◌≡◌, ℕ, zero, suc, ◌+◌, ◌-◌, ◌<◌, ◌≤◌, List, [], ◌∷◌, ◌++◌, length, map, Some, sym, ap, ◌∙◌, subst, append_assoc, append-nil, arith, length-append}
+use Rattle.std.proofs.Common.{◌≡◌, ℕ, zero, suc, ◌+◌, ◌-◌, ◌<◌, ◌≤◌, List, [], ◌∷◌, ◌++◌, length, map, true, Some, IsSome, refl, sym, ap, ◌∙◌, subst, append_assoc, append-nil, arith, length-append}
 use Rattle.std.specs.List.{slice_get}
 use Rattle.px_words.specs.Operator.{bits_of}
 use Rattle.px_cells.specs.Algebra.{Algebra, Laws}
 use Rattle.px_cells.specs.Plain.{plain, plain_algebra}
+use Rattle.px_program.specs.declared.instr.Arithmetic.{Arithmetic}
+use Rattle.px_program.specs.declared.instr.Arithmetic.TheVariants as arithmetic
 use Rattle.px_program.specs.declared.instr.Code.{Code}
 use Rattle.px_program.specs.declared.instr.Code.TheVariants as codes
 use Rattle.px_program.specs.declared.instr.Instr.{Instr}
@@ -13,11 +15,12 @@ use Rattle.px_program.specs.declared.program.Method.{Method}
 use Rattle.px_program.specs.declared.record.End.{End}
 use Rattle.px_program.specs.declared.record.End.TheVariants as ends
 use Rattle.px_program.specs.Formed.{instr_at}
+use Rattle.px_verify.specs.Simple.{is_sum}
 use Rattle.px_verify.specs.Typing.{Fits, HasValue, IsTyped}
 use Rattle.px_interp.specs.declared.machine.Seen.{Seen}
 use Rattle.px_interp.specs.Rows.{HasScalar, Needs}
 use Rattle.px_interp.specs.Run.{course_by, no_pool}
-use Rattle.px_interp.specs.Table.{Outcome, State, Step, Goes, Chooses, Ends, behind, first, row, row_at, run}
+use Rattle.px_interp.specs.Table.{Outcome, State, Step, Goes, Chooses, Ends, behind, first, operator_of, row, row_at, run}
 use Rattle.px_interp.specs.Words.{AreArguments}
 use Rattle.px_interp.proofs.AsWords.{course, run_as_words}
 use Rattle.px_interp.proofs.Steps.{Ready, ReadyAfter, int32_argument, row_ready}
@@ -48,17 +51,24 @@ inside (y ∷ xs) (suc i) x h = omega (arith, inside xs i x h)
 has_scalar : {X : Type 0} (P : ℕ → X → Type 0) (method : Method) (args : List X) (move : Move) → AreArguments P method.params args → HasValue method move → HasScalar (length args) move
 has_scalar P method args (moves.Argument n) ar h = let e = int32_argument P method.params args n h ar in inside args n e.0 e.1
 has_scalar P method args (moves.Constant wide pattern) ar h = let e : bits_of wide ≡ 32 = ap bits_of h.0 in rw e h.1
+has_scalar P method args _ ar h = absurd h
+
+-- a sum has an operator
+sum_operator : (operation : Arithmetic) → is_sum operation ≡ true → IsSome (operator_of operation)
+sum_operator arithmetic.Add h = refl
+sum_operator arithmetic.Sub h = refl
+sum_operator _ h = cc
 
 -- an instruction that fits finds what it needs
 fits_needs : {X : Type 0} (P : ℕ → X → Type 0) (method : Method) (args : List X) (next depth : ℕ) (code : Code) → AreArguments P method.params args → Fits method next depth code → Needs (length args) depth code
-fits_needs P method args next depth codes.Nop ar f = tt
+fits_needs P method args next depth (codes.Nop is_break) ar f = tt
 fits_needs P method args next depth (codes.Move move) ar f = has_scalar P method args move ar f.0
-fits_needs P method args next depth (codes.Arithmetic operation) ar f = f.0
+fits_needs P method args next depth (codes.Arithmetic operation) ar f = (sum_operator operation f.0, f.1)
 fits_needs P method args next depth (codes.Branch target) ar f = tt
 fits_needs P method args next depth (codes.BranchTruth when target) ar f = f.0
 fits_needs P method args next depth (codes.BranchCompare test signed target) ar f = f.0
 fits_needs P method args next depth codes.Return ar f = f
-fits_needs P method args next depth (codes.Outside name opcode) ar f = tt
+fits_needs P method args next depth _ ar f = absurd f
 
 module _ {P W : Type 0} {IsSound : P → Type 0} {StandsIn : P → ℕ → W → Type 0} {a : Algebra P W} (laws : Laws IsSound StandsIn a) (method : Method) (typed : IsTyped method) (number : ℕ) (args : List W) (n : ℕ) (p : P) (standing : AreArguments (StandsIn p) method.params args) where
   came : (es : List (Seen W)) (end : End) (q : P) → with_seen es (record { seen = []; end = Some end; pool = q }) ≡ run a n method number args (first p) → Came a method number args n p es end q

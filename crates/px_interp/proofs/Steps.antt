@@ -1,6 +1,7 @@
 -- A typed method keeps its states ready, and never gets stuck.
 use Rattle.std.proofs.Common.{◌≡◌, ℕ, zero, suc, ◌+◌, ◌-◌, ◌<◌, ◌≤◌, ◌^◌, Bool, true, false, if◌then◌else◌, ◌==◌, List, [], ◌∷◌, length, Option, Some, None, IsSome, refl, arith, subst, lit<}
 use Rattle.std.specs.List.{AllByRecursion, slice_get}
+use Rattle.px_words.specs.declared.Op.{Op}
 use Rattle.px_words.specs.declared.Op.TheVariants as op
 use Rattle.px_words.specs.Operator.{bits_of}
 use Rattle.px_cells.specs.Algebra.{Algebra, Keeps, Laws, Made}
@@ -19,6 +20,7 @@ use Rattle.px_program.specs.declared.program.Place.{Place}
 use Rattle.px_program.specs.declared.program.Place.TheVariants.{I4}
 use Rattle.px_program.specs.Formed.{instr_at}
 use Rattle.px_domain.specs.Place.{word_bits}
+use Rattle.px_verify.specs.Simple.{is_sum}
 use Rattle.px_verify.specs.Typing.{At, Fits, HasValue, IsTyped}
 use Rattle.px_interp.specs.Table.{State, Step, Goes, Chooses, Ends, Stuck, Outcome, behind, branched, condition_by, constant, is_zero, landing, on_arithmetic, on_compare, on_move, on_return, on_truth, on_two, operator_of, pushed, compare_of, row, row_at, run, step}
 use Rattle.px_interp.specs.Words.{AreArguments}
@@ -121,14 +123,22 @@ module _ {P W : Type 0} {IsSound : P → Type 0} {StandsIn : P → ℕ → W →
         rw e.1 (record { pool = sound; stack = (e.2, st); arguments = ar; depth = at_depth method next _ _ (omega arith) d })
     move_ready (moves.Constant true pattern) next xs p value d sound st ar = cc
     move_ready (moves.Constant false pattern) next xs p value d sound st ar = pushed_ready next xs p _ (constant_keeps p pattern value.1 sound) st ar d
+    move_ready _ next xs p value d sound st ar = absurd value
 
-    arithmetic_ready : (operation : Arithmetic) (next : ℕ) (xs : List W) (p : P) → 2 ≤ length xs → At method next (length xs - 1) → IsSound p → AllByRecursion (StandsIn p 32) xs → AreArguments (StandsIn p) method.params args → ReadyAfter (on_arithmetic a (operator_of operation) next xs p)
-    arithmetic_ready operation next [] p deep d sound st ar = absurd (omega arith)
-    arithmetic_ready operation next (y ∷ []) p deep d sound st ar = absurd (omega arith)
-    arithmetic_ready arithmetic.Add next (y ∷ x ∷ xs) p deep d sound st ar =
-        pushed_ready next xs p _ (laws.keeps p (op.Add false) (x ∷ y ∷ []) tt sound (st.1.0, (st.0, tt))) st.1.1 ar (at_depth method next _ _ (omega arith) d)
-    arithmetic_ready arithmetic.Sub next (y ∷ x ∷ xs) p deep d sound st ar =
-        pushed_ready next xs p _ (laws.keeps p (op.Sub false) (x ∷ y ∷ []) tt sound (st.1.0, (st.0, tt))) st.1.1 ar (at_depth method next _ _ (omega arith) d)
+    -- an operator of two 32 bits has one as its result
+    two_ready : (o : Op) (next : ℕ) (xs : List W) (p : P) → ((x y : W) → StandsIn p 32 x → StandsIn p 32 y → Keeps IsSound StandsIn p 32 (on_two a o x y p)) → 2 ≤ length xs → At method next (length xs - 1) → AllByRecursion (StandsIn p 32) xs → AreArguments (StandsIn p) method.params args
+        → ReadyAfter (on_arithmetic a (Some o) next xs p)
+    two_ready o next [] p keeps deep d st ar = absurd (omega arith)
+    two_ready o next (y ∷ []) p keeps deep d st ar = absurd (omega arith)
+    two_ready o next (y ∷ x ∷ xs) p keeps deep d st ar = pushed_ready next xs p _ (keeps x y st.1.0 st.0) st.1.1 ar (at_depth method next _ _ (omega arith) d)
+
+    arithmetic_ready : (operation : Arithmetic) (next : ℕ) (xs : List W) (p : P) → is_sum operation ≡ true → 2 ≤ length xs → At method next (length xs - 1) → IsSound p → AllByRecursion (StandsIn p 32) xs → AreArguments (StandsIn p) method.params args
+        → ReadyAfter (on_arithmetic a (operator_of operation) next xs p)
+    arithmetic_ready arithmetic.Add next xs p known deep d sound st ar =
+        two_ready (op.Add false) next xs p (λ x y h k. laws.keeps p (op.Add false) (x ∷ y ∷ []) tt sound (h, (k, tt))) deep d st ar
+    arithmetic_ready arithmetic.Sub next xs p known deep d sound st ar =
+        two_ready (op.Sub false) next xs p (λ x y h k. laws.keeps p (op.Sub false) (x ∷ y ∷ []) tt sound (h, (k, tt))) deep d st ar
+    arithmetic_ready _ next xs p known deep d sound st ar = cc
 
     truth_ready : (test : Test) (number offset next target : ℕ) (xs : List W) (p : P) → 1 ≤ length xs → At method next (length xs - 1) → At method target (length xs - 1) → IsSound p → AllByRecursion (StandsIn p 32) xs → AreArguments (StandsIn p) method.params args
         → ReadyAfter (on_truth a number offset next target (compare_of test true) xs p)
@@ -152,15 +162,15 @@ module _ {P W : Type 0} {IsSound : P → Type 0} {StandsIn : P → ℕ → W →
 
     -- one case for each row
     pub row_ready : (code : Code) (number offset next : ℕ) (xs : List W) (p : P) → Fits method next (length xs) code → IsSound p → AllByRecursion (StandsIn p 32) xs → AreArguments (StandsIn p) method.params args → ReadyAfter (row a code number offset next args xs p)
-    row_ready codes.Nop number offset next xs p f sound st ar = record { pool = sound; stack = st; arguments = ar; depth = f }
+    row_ready (codes.Nop is_break) number offset next xs p f sound st ar = record { pool = sound; stack = st; arguments = ar; depth = f }
     row_ready (codes.Move move) number offset next xs p f sound st ar = move_ready move next xs p f.0 f.1 sound st ar
-    row_ready (codes.Arithmetic operation) number offset next xs p f sound st ar = arithmetic_ready operation next xs p f.0 f.1 sound st ar
+    row_ready (codes.Arithmetic operation) number offset next xs p f sound st ar = arithmetic_ready operation next xs p f.0 f.1 f.2 sound st ar
     row_ready (codes.Branch target) number offset next xs p f sound st ar = record { pool = sound; stack = st; arguments = ar; depth = f }
     row_ready (codes.BranchTruth true target) number offset next xs p f sound st ar = truth_ready tests.Ne number offset next target xs p f.0 f.1 f.2 sound st ar
     row_ready (codes.BranchTruth false target) number offset next xs p f sound st ar = truth_ready tests.Eq number offset next target xs p f.0 f.1 f.2 sound st ar
     row_ready (codes.BranchCompare test signed target) number offset next xs p f sound st ar = compare_ready test signed number offset next target xs p f.0 f.1 f.2 sound st ar
     row_ready codes.Return number offset next xs p f sound st ar = return_ready xs p f
-    row_ready (codes.Outside name opcode) number offset next xs p f sound st ar = tt
+    row_ready _ number offset next xs p f sound st ar = absurd f
 
     behind_ends : (t : Step P W) (go : State P W → Outcome P W) → ReadyAfter t → ((s : State P W) → Ready IsSound StandsIn method args s → IsSome (go s).end) → IsSome (behind a t go).end
     behind_ends (Goes s) go ready f = f s ready

@@ -20,14 +20,8 @@ depth_there (j ∷ rest) depth at i h = pick (j.offset == at) (depth_there rest 
     pick false f e = f e
 
 fits_names : (method : Method) (next depth : ℕ) (code : Code) → Fits method next depth code → NamesValue method code
-fits_names method next depth codes.Nop f = tt
 fits_names method next depth (codes.Move move) f = f.0
-fits_names method next depth (codes.Arithmetic operation) f = tt
-fits_names method next depth (codes.Branch target) f = tt
-fits_names method next depth (codes.BranchTruth when target) f = tt
-fits_names method next depth (codes.BranchCompare test signed target) f = tt
-fits_names method next depth codes.Return f = tt
-fits_names method next depth (codes.Outside name opcode) f = tt
+fits_names method next depth _ f = tt
 
 -- the scalars that the instructions of a typed method name are there
 pub typed_names : (method : Method) → IsTyped method → (at : ℕ) (i : Instr) → instr_at method.code at ≡ Some i → NamesValue method i.code

@@ -1,5 +1,5 @@
 -- What the answer of a row stands for, and what a row needs.
-use Rattle.std.specs.Prelude.{ℕ, ◌<◌, ◌≤◌, ◌^◌, List}
+use Rattle.std.specs.Prelude.{ℕ, ◌<◌, ◌≤◌, ◌^◌, List, IsSome}
 use Rattle.px_words.specs.Operator.{bits_of}
 use Rattle.px_cells.specs.Algebra.{Made}
 use Rattle.px_program.specs.declared.instr.Code.{Code}
@@ -8,7 +8,7 @@ use Rattle.px_program.specs.declared.instr.Move.{Move}
 use Rattle.px_program.specs.declared.instr.Move.TheVariants as moves
 use Rattle.px_interp.specs.declared.rows.Next.{Next}
 use Rattle.px_interp.specs.declared.rows.Next.TheVariants as nexts
-use Rattle.px_interp.specs.Table.{Step, Goes, Chooses, Ends}
+use Rattle.px_interp.specs.Table.{Step, Goes, Chooses, Ends, operator_of}
 
 abbrev pub made : {P W : Type 0} → W → P → Made P W
 made x pool = record { scalar = x; pool = pool }
@@ -23,14 +23,16 @@ step_of (nexts.Ends end) stack pool = Ends end pool
 abbrev pub HasScalar : ℕ → Move → Type 0
 HasScalar count (moves.Argument n) = n < count
 HasScalar count (moves.Constant wide pattern) = pattern < 2 ^ bits_of wide
+HasScalar count _ = ⊥
 
 -- what an instruction needs, of so many arguments and with so many operands on the stack
 abbrev pub Needs : ℕ → ℕ → Code → Type 0
-Needs count depth codes.Nop = Unit {0}
+Needs count depth (codes.Nop is_break) = Unit {0}
 Needs count depth (codes.Move move) = HasScalar count move
-Needs count depth (codes.Arithmetic operation) = 2 ≤ depth
+Needs count depth (codes.Arithmetic operation) = IsSome (operator_of operation) × (2 ≤ depth)
 Needs count depth (codes.Branch target) = Unit {0}
 Needs count depth (codes.BranchTruth when target) = 1 ≤ depth
 Needs count depth (codes.BranchCompare test signed target) = 2 ≤ depth
 Needs count depth codes.Return = 1 ≤ depth
 Needs count depth (codes.Outside name opcode) = Unit {0}
+Needs count depth _ = ⊥

@@ -47,10 +47,11 @@ pub record Outcome (P W : Type 0) : Type 0 where
 abbrev pub pushed : {P W : Type 0} → ℕ → List W → Made P W → Step P W
 pushed next stack made = Goes (record { at = next; stack = made.scalar ∷ stack; pool = made.pool })
 
--- the operators on 32 bits
-abbrev pub operator_of : Arithmetic → Op
-operator_of arithmetic.Add = op.Add false
-operator_of arithmetic.Sub = op.Sub false
+-- the operators on 32 bits; the other operations have no row yet
+abbrev pub operator_of : Arithmetic → Option Op
+operator_of arithmetic.Add = Some (op.Add false)
+operator_of arithmetic.Sub = Some (op.Sub false)
+operator_of _ = None
 
 abbrev pub less : Compare → Op
 less compare = if compare.signed then op.LtS compare.wide else op.LtU compare.wide
@@ -113,11 +114,11 @@ module _ {P W : Type 0} (a : Algebra P W) where
   abbrev pub on_move : Move → List W → ℕ → List W → P → Step P W
   on_move (moves.Argument n) args next stack pool = on_argument (slice_get args n) next stack pool
   on_move (moves.Constant wide pattern) args next stack pool = pushed next stack (a.applied pool (op.Const wide pattern) [])
+  on_move _ args next stack pool = Stuck pool
 
-  abbrev pub on_arithmetic : Op → ℕ → List W → P → Step P W
-  on_arithmetic o next [] pool = Stuck pool
-  on_arithmetic o next (y ∷ []) pool = Stuck pool
-  on_arithmetic o next (y ∷ x ∷ stack) pool = pushed next stack (on_two o x y pool)
+  abbrev pub on_arithmetic : Option Op → ℕ → List W → P → Step P W
+  on_arithmetic (Some o) next (y ∷ x ∷ stack) pool = pushed next stack (on_two o x y pool)
+  on_arithmetic _ next stack pool = Stuck pool
 
   abbrev pub on_truth : ℕ → ℕ → ℕ → ℕ → Compare → List W → P → Step P W
   on_truth method offset next target compare [] pool = Stuck pool
@@ -133,9 +134,9 @@ module _ {P W : Type 0} (a : Algebra P W) where
   on_return [] pool = Stuck pool
   on_return (x ∷ stack) pool = Ends (ends.Returned (values.Number (a.word x))) pool
 
-  -- THE TABLE: a row for each instruction, of the method of a number, at an offset, before the next offset
+  -- THE TABLE: a row for each instruction that is run so far, of the method of a number, at an offset, before the next offset
   abbrev pub row : Code → ℕ → ℕ → ℕ → List W → List W → P → Step P W
-  row codes.Nop method offset next args stack pool = Goes (record { at = next; stack = stack; pool = pool })
+  row (codes.Nop is_break) method offset next args stack pool = Goes (record { at = next; stack = stack; pool = pool })
   row (codes.Move move) method offset next args stack pool = on_move move args next stack pool
   row (codes.Arithmetic operation) method offset next args stack pool = on_arithmetic (operator_of operation) next stack pool
   row (codes.Branch target) method offset next args stack pool = Goes (record { at = target; stack = stack; pool = pool })
@@ -143,6 +144,7 @@ module _ {P W : Type 0} (a : Algebra P W) where
   row (codes.BranchCompare test signed target) method offset next args stack pool = on_compare method offset next target (compare_of test signed) stack pool
   row codes.Return method offset next args stack pool = on_return stack pool
   row (codes.Outside name opcode) method offset next args stack pool = Ends (ends.Outside method offset) pool
+  row _ method offset next args stack pool = Stuck pool
 
   abbrev pub row_at : Option Instr → ℕ → List W → State P W → Step P W
   row_at None method args s = Stuck s.pool

@@ -1,7 +1,7 @@
 // A run over any kind of scalars.
 ghost use Rattle.std.specs.Prelude.{◌≡◌, ◌≤◌, ℕ, Some, IfOk, IsSome, OnOk, map, vec_len};
 ghost use Rattle.px_cells.specs.Plain.{plain, plain_algebra};
-ghost use Rattle.px_program.specs.Formed.{instr_at};
+ghost use Rattle.px_program.specs.Formed.{Follow, instr_at};
 ghost use Rattle.px_verify.specs.Typing.{IsTyped};
 ghost use Rattle.px_interp.specs.Run.{course_by, no_pool, seen_events, seen_gaps};
 ghost use Rattle.px_interp.specs.Table.{first, run};
@@ -11,6 +11,7 @@ use crate::rows::{Next, act};
 use crate::stack::Stack;
 use px_cells::Worded;
 use px_program::{End, Event, Instr, Method};
+use px_verify::instr_at;
 use std::alloc::{AllocError, Global};
 
 /// An event of a run, with what is known beside it.
@@ -41,6 +42,7 @@ pub fn trace<W: Worded>(
     pool: &mut W::Pool,
     steps: u32,
 ) -> Result<Traced<W>, AllocError>
+    requires follow { Follow 0 method.now.code }
     requires typed { IsTyped method.now }
     requires pool { W.sound pool.old }
     requires args { AreArguments (W.stands pool.old) method.now.params args.now }
@@ -56,7 +58,7 @@ pub fn trace<W: Worded>(
     let mut stack = Stack::new(alloc);
     let mut at = 0;
     for i in 0..steps {
-        let instr = instr_at(method.code.as_slice(), at);
+        let instr = instr_of(method, at);
         match act(alloc, instr, number, args, pool, &mut stack)? {
             Next::Goes(to) => at = to,
             Next::Chooses(choice, to) => {
@@ -72,15 +74,14 @@ pub fn trace<W: Worded>(
     })
 }
 
-// The instruction that starts at an offset: a plain scan, since a simple method has at most 63 bytes of code.
-fn instr_at(code: &[Instr], at: u32) -> &Instr
-    requires { IsSome (instr_at code.now at) }
-    ensures { instr_at code.now at ≡ Some result.now }
+// The instruction that starts at the offset, where one does.
+fn instr_of(method: &Method, at: u32) -> &Instr
+    requires follow { Follow 0 method.now.code }
+    requires there { IsSome (instr_at method.now.code at) }
+    ensures { instr_at method.now.code at ≡ Some result.now }
 {
-    for instr in code {
-        if instr.offset == at {
-            return instr;
-        }
+    match instr_at(method, at) {
+        Some(instr) => instr,
+        None => unreachable!(),
     }
-    unreachable!()
 }

@@ -1,5 +1,5 @@
 // The rows of the table of instructions.
-ghost use Rattle.std.specs.Prelude.{◌≡◌, ◌≤◌, ◌<◌, ◌^◌, ◌∷◌, IfOk, List, length};
+ghost use Rattle.std.specs.Prelude.{◌≡◌, ◌≤◌, ◌<◌, ◌^◌, ◌∷◌, IfOk, IsSome, List, Some, length};
 ghost use Rattle.std.specs.List.{AllByRecursion};
 ghost use Rattle.px_words.specs.Operator.{bits_of};
 ghost use Rattle.px_interp.specs.Rows.{HasScalar, Needs, made, step_of};
@@ -29,13 +29,15 @@ pub struct Position {
     pub next: u32,
 }
 
-// The operator on 32 bits.
+// The operator on 32 bits of an operation that has one.
 fn operator_of(operation: Arithmetic) -> Op
-    ensures { result ≡ operator_of operation }
+    requires { IsSome (operator_of operation) }
+    ensures { operator_of operation ≡ Some result }
 {
     match operation {
         Arithmetic::Add => Op::Add { wide: false },
         Arithmetic::Sub => Op::Sub { wide: false },
+        _ => unreachable!(),
     }
 }
 
@@ -145,25 +147,26 @@ fn branched<W: Worded>(
 fn on_move<W: Worded>(
     alloc: Global,
     pool: &mut W::Pool,
-    value: Move,
+    value: &Move,
     next: u32,
     args: &[W],
     stack: &mut Stack<W>,
 ) -> Result<Next<W>, AllocError>
     requires pool { W.sound pool.old }
-    requires value { HasScalar (length args.now) value }
-    ensures { IfOk result (λ n. step_of n stack.new pool.new ≡ on_move W.algebra value args.now next stack.old pool.old) }
+    requires value { HasScalar (length args.now) value.now }
+    ensures { IfOk result (λ n. step_of n stack.new pool.new ≡ on_move W.algebra value.now args.now next stack.old pool.old) }
 {
     match value {
         Move::Argument(n) => {
-            stack.push(args[n as usize])?;
+            stack.push(args[*n as usize])?;
             Ok(Next::Goes(next))
         }
         Move::Constant { wide, pattern } => {
-            let x = constant(alloc, pool, wide, pattern)?;
+            let x = constant(alloc, pool, *wide, *pattern)?;
             stack.push(x)?;
             Ok(Next::Goes(next))
         }
+        _ => unreachable!(),
     }
 }
 
@@ -174,6 +177,7 @@ fn on_arithmetic<W: Worded>(
     next: u32,
     stack: &mut Stack<W>,
 ) -> Result<Next<W>, AllocError>
+    requires known { IsSome (operator_of operation) }
     requires pool { W.sound pool.old }
     requires standing { AllByRecursion (W.stands pool.old 32) stack.old }
     requires deep { 2 ≤ length stack.old }
@@ -250,8 +254,8 @@ pub fn act<W: Worded>(
         next,
     };
     match &instr.code {
-        Code::Nop => Ok(Next::Goes(next)),
-        Code::Move(value) => on_move(alloc, pool, *value, next, args, stack),
+        Code::Nop { .. } => Ok(Next::Goes(next)),
+        Code::Move(value) => on_move(alloc, pool, value, next, args, stack),
         Code::Arithmetic(operation) => on_arithmetic(alloc, pool, *operation, next, stack),
         Code::Branch(target) => Ok(Next::Goes(*target)),
         Code::BranchTruth { when, target } => {
@@ -271,5 +275,6 @@ pub fn act<W: Worded>(
         ),
         Code::Return => Ok(on_return(stack)),
         Code::Outside(_, _) => Ok(Next::Ends(End::Outside(method, instr.offset))),
+        _ => unreachable!(),
     }
 }

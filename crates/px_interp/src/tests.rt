@@ -1,14 +1,16 @@
 // Runs of methods that are built by hand, with two int32 parameters.
-ghost use Rattle.std.specs.Prelude.{◌≡◌, ◌≢◌, true, [], ◌∷◌, IsTrue, IfOk};
-ghost use Rattle.std.specs.List.{list_all};
+ghost use Rattle.std.specs.Prelude.{◌≡◌, [], ◌∷◌, true, Some, IsTrue, IfOk};
+ghost use Rattle.std.specs.List.{AllByRecursion, list_all};
 ghost use Rattle.px_domain.specs.Domain.{params_of, places_of};
-ghost use Rattle.px_program.specs.Formed.{Follow, IsFormed, IsWellFormed, is_start, targets_of};
+ghost use Rattle.px_program.specs.declared.program.Method.{Method};
+ghost use Rattle.px_program.specs.Alone.{alone};
+ghost use Rattle.px_program.specs.Formed.{Follow, HasCode, HasOperands, IsFormed, IsWellFormed, is_start, targets_of};
 
 use crate::run;
 use px_domain::{Domain, DomainFault, read_domain};
 use px_program::{
     Arithmetic, Bounds, Code, End, Instr, Method, Move, Place, Program, Record, Site, SiteKind,
-    Test, Value,
+    Test, Value, alone,
 };
 use px_verify::{SimpleFault, Verified, simple};
 use sqlite_items::Items;
@@ -33,7 +35,7 @@ enum Row {
 
 fn code_of(row: Row) -> Code {
     match row {
-        Row::Nop => Code::Nop,
+        Row::Nop => Code::Nop { is_break: false },
         Row::Argument(n) => Code::Move(Move::Argument(n)),
         Row::Constant(pattern) => Code::Move(Move::Constant {
             wide: false,
@@ -60,7 +62,7 @@ fn code_from(rt: &impl Abort, alloc: Global, rows: &[Row]) -> Result<Vec<Instr>,
     let mut code = Vec::new(alloc);
     let mut offset = 0;
     for row in rows {
-        assert!(rt; offset < 100);
+        assert!(rt; offset < 10_000);
         code.push(Instr {
             offset,
             next: offset + 2,
@@ -94,10 +96,14 @@ fn leads_well(code: &[Instr], instr: &Instr) -> bool
     ensures { result ≡ list_all (is_start code.now) (targets_of instr.now.code) }
 {
     match &instr.code {
-        Code::Branch(target) => is_start(code, *target),
+        Code::Branch(target) | Code::Leave(target) => is_start(code, *target),
         Code::BranchTruth { target, .. } => is_start(code, *target),
         Code::BranchCompare { target, .. } => is_start(code, *target),
-        Code::Nop | Code::Move(_) | Code::Arithmetic(_) | Code::Return | Code::Outside(..) => true,
+        Code::Switch(targets) => targets
+            .as_slice()
+            .iter()
+            .all(|target| is_start(code, *target)),
+        _ => true,
     }
 }
 
@@ -107,14 +113,43 @@ fn lead(code: &[Instr]) -> bool
     code.iter().all(|instr| leads_well(code, instr))
 }
 
+// Whether it is of a kind that names nothing by a number.
+fn is_nameless(code: &Code) -> bool
+    ensures { IsTrue result → (method : Method) → HasOperands (alone [] method) code.now }
+{
+    match code {
+        Code::NewArray(_) | Code::Element { .. } | Code::Field { .. } => false,
+        Code::Static { .. } | Code::Call(_) | Code::CallVirtual(_) => false,
+        Code::NewObject(_) | Code::Cast { .. } => false,
+        _ => true,
+    }
+}
+
+fn are_nameless(code: &[Instr]) -> bool
+    ensures { IsTrue result → (method : Method) → AllByRecursion (λ i. HasOperands (alone [] method) i.code) code.now }
+{
+    for instr in code {
+        if !is_nameless(&instr.code) {
+            return false;
+        }
+    }
+    true
+}
+
 fn method_from(rt: &impl Abort, alloc: Global, rows: &[Row]) -> Result<Method, AllocError>
+    ensures some { IfOk result HasCode }
     ensures formed { IfOk result IsFormed }
+    ensures named { IfOk result (λ m. (other : Method) → AllByRecursion (λ i. HasOperands (alone [] other) i.code) m.code) }
     ensures params { IfOk result (λ m. m.params ≡ Place.I4 ∷ Place.I4 ∷ []) }
+    ensures simple { IfOk result (λ m. (m.owner ≡ 0) × (m.is_static ≡ true) × (m.ret ≡ Some Place.I4) × (m.locals ≡ []) × (m.clauses ≡ [])) }
 {
     let code = code_from(rt, alloc, rows)?;
     assert!(rt; !code.is_empty());
     assert!(rt; follow(code.as_slice()));
     assert!(rt; lead(code.as_slice()));
+    if !are_nameless(code.as_slice()) {
+        panic!(rt; "an instruction names something");
+    }
     Ok(Method {
         name: Items::new(alloc),
         owner: 0,
@@ -128,19 +163,12 @@ fn method_from(rt: &impl Abort, alloc: Global, rows: &[Row]) -> Result<Method, A
     })
 }
 
-// The entry is the second method.
 fn program_from(rt: &impl Abort, alloc: Global, rows: &[Row]) -> Result<Program, AllocError>
     ensures formed { IfOk result IsWellFormed }
     ensures params { IfOk result (λ p. params_of p ≡ Place.I4 ∷ Place.I4 ∷ []) }
 {
-    let other = method_from(rt, alloc, &[Row::Constant(0), Row::Return])?;
-    let entry = method_from(rt, alloc, rows)?;
-    Ok(Program {
-        types: Items::new(alloc),
-        methods: Items::from_vec(vec![in alloc; other, entry]?),
-        entry: 1,
-        maker: None,
-    })
+    let method = method_from(rt, alloc, rows)?;
+    alone(alloc, &[], method)
 }
 
 // The whole domain of the program.
@@ -155,12 +183,13 @@ fn domain_of(rt: &impl Abort, alloc: Global, program: &Program) -> Result<Domain
     }
 }
 
-fn verified(rt: &impl Abort, program: Program) -> Verified
+fn verified(rt: &impl Abort, alloc: Global, program: Program) -> Result<Verified, AllocError>
     requires { IsWellFormed program }
-    ensures { result ≡ program }
+    ensures { IfOk result (λ v. v ≡ program) }
 {
-    match simple(program) {
-        Ok(verified) => verified,
+    match simple(alloc, program) {
+        Ok(verified) => Ok(verified),
+        Err(SimpleFault::Memory) => Err(AllocError),
         Err(SimpleFault::At(at)) => panic!(rt; "not simple at {at}"),
     }
 }
@@ -175,7 +204,7 @@ fn run_rows(
 ) -> Result<Record, AllocError> {
     let program = program_from(rt, alloc, rows)?;
     let domain = domain_of(rt, alloc, &program)?;
-    let program = verified(rt, program);
+    let program = verified(rt, alloc, program)?;
     let words = Items::from_slice(alloc, &words)?;
     assert!(rt; domain.holds(&words));
     let bounds = Bounds {
@@ -193,7 +222,7 @@ fn expect_path(rt: &impl Abort, name: &str, record: &Record, path: &[(u32, u32, 
     let events = record.events.as_slice().iter().zip(record.gaps.as_slice());
     for ((event, gap), (offset, side, distance)) in events.zip(path) {
         let site = Site {
-            method: 1,
+            method: 0,
             offset: *offset,
             kind: SiteKind::Branch,
             arity: 2,
@@ -201,6 +230,14 @@ fn expect_path(rt: &impl Abort, name: &str, record: &Record, path: &[(u32, u32, 
         assert_eq!(rt; event.site, site, "{name}");
         assert_eq!(rt; event.side, *side, "side of {name}");
         assert_eq!(rt; gap, distance, "gap of {name}");
+    }
+}
+
+// The end of a run that returned a number, or came to its bound.
+fn end_of(returned: Option<u64>) -> End {
+    match returned {
+        Some(number) => End::Returned(Value::Number(number)),
+        None => End::StepBound,
     }
 }
 
@@ -346,16 +383,42 @@ fn runs_with_path_gaps_and_end(rt: HostRuntime) -> Result<(), Fail> {
     for (name, rows, words, steps, path, returned) in cases {
         let record = run_rows(&rt, rt.alloc(), rows, words, steps)?;
         expect_path(&rt, name, &record, path);
-        let end = match returned {
-            Some(number) => End::Returned(Value::Number(number)),
-            None => End::StepBound,
-        };
-        assert_eq!(rt; record.end, end, "end of {name}");
+        assert_eq!(rt; record.end, end_of(returned), "end of {name}");
         assert_eq!(rt;
             record.words.as_slice(),
             words.as_slice(),
             "words of {name}"
         );
+    }
+    Ok(())
+}
+
+// A body that returns 9 where its second argument isn't 0, and else its first with 1 added to it 2,000 times.
+fn long_rows(alloc: Global) -> Result<Vec<Row>, AllocError> {
+    use Row::*;
+    let mut rows = vec![in alloc; Argument(1), JumpIf(8008), Argument(0)]?;
+    for _ in 0..2000 {
+        rows.push(Constant(1))?;
+        rows.push(Add)?;
+    }
+    rows.push(Return)?;
+    rows.push(Constant(9))?;
+    rows.push(Return)?;
+    Ok(rows)
+}
+
+#[test]
+fn runs_thousands_of_instructions(rt: HostRuntime) -> Result<(), Fail> {
+    let cases = [
+        ("through all", [5, 0], 4004, 0, Some(2005)),
+        ("a step too few", [5, 0], 4003, 0, None),
+        ("over most", [5, 1], 4, 1, Some(9)),
+    ];
+    let rows = long_rows(rt.alloc())?;
+    for (name, words, steps, side, returned) in cases {
+        let record = run_rows(&rt, rt.alloc(), rows.as_slice(), words, steps)?;
+        expect_path(&rt, name, &record, &[(2, side, 1)]);
+        assert_eq!(rt; record.end, end_of(returned), "end of {name}");
     }
     Ok(())
 }

@@ -9,6 +9,8 @@ use Rattle.px_code.specs.declared.body.BodyFault.{BodyFault}
 use Rattle.px_code.specs.declared.body.BodyFault.TheVariants as body_faults
 use Rattle.px_code.specs.Reading.{Fails}
 use Rattle.px_pe.specs.Image as pe
+use Rattle.px_program.specs.Alone.{alone, types_with}
+use Rattle.px_program.specs.Formed.{FitsPlace, IsInteger}
 use Rattle.px_program.specs.declared.program.Place.{Place}
 use Rattle.px_program.specs.declared.program.Place.TheVariants as places
 use Rattle.px_program.specs.declared.program.Program.{Program}
@@ -20,8 +22,12 @@ use Rattle.px_tables.specs.Metadata.{View}
 use Rattle.px_meta.specs.declared.meta.MetaMethod.{MetaMethod}
 use Rattle.px_link.specs.declared.fault.LinkFault.{LinkFault}
 use Rattle.px_link.specs.declared.fault.LinkFault.TheVariants as faults
-use Rattle.px_link.specs.Link.{Blames, HasNoBody, IsFound, IsInteger, IsLater, IsTheMethod, Reads, TakesInt32s, and_place, bad_body, body_at, is_int32, is_linked_form, place_of, places_of}
-use Rattle.px_link.specs.Raw.{method_of, program_with}
+use Rattle.px_link.specs.Link.{Blames, HasNoBody, IsFound, IsLater, IsTheMethod, Reads, TakesInt32s, and_place, bad_body, body_at, is_int32, is_linked_body, is_linked_form, place_of, places_of}
+use Rattle.px_link.specs.Raw.{method_of}
+
+both : (a b : Bool) → (a && b) ≡ true → (a ≡ true) × (b ≡ true)
+both true b h = (refl, h)
+both false b h = absurd (cc)
 
 all_and : (a b c d : Bool) → a ≡ true → b ≡ true → c ≡ true → d ≡ (a && b && c && d)
 all_and true true true d x y z = refl
@@ -90,7 +96,7 @@ blamed v image name m (body_faults.Bad kind at) the some plain fails =
     (record { method = the.row; sig = m.sig; found = found v name m the some plain; refused = ap (λ rva. body_at image rva) (sym the.is.rva) ∙ fails }, refl)
 
 pub later : (v : View) (image : pe.View) (name : List ℕ) (m : MetaMethod) (body : Body) (params : Option (List Place)) → IsTheMethod v name m → m.rva ≢ 0 → m.sig.plain ≡ true
-    → body_at image m.rva ≡ Ok body → is_linked_form m.sig ≡ false → params ≡ places_of m.sig.params → IsLater v image name params
+    → body_at image m.rva ≡ Ok body → (is_linked_form m.sig && is_linked_body body) ≡ false → params ≡ places_of m.sig.params → IsLater v image name params
 later v image name m body params the some plain read other are = record {
   method = the.row;
   sig = m.sig;
@@ -102,20 +108,17 @@ later v image name m body params the some plain read other are = record {
 }
 
 pub reads : (v : View) (image : pe.View) (name : List ℕ) (m : MetaMethod) (body : Body) (params : List Place) → IsTheMethod v name m → m.rva ≢ 0 → m.sig.plain ≡ true
-    → body_at image m.rva ≡ Ok body → is_linked_form m.sig ≡ true → params ≡ map (λ t. places.I4) m.sig.params → Reads v image name (program_with (method_of name body params))
+    → body_at image m.rva ≡ Ok body → (is_linked_form m.sig && is_linked_body body) ≡ true → params ≡ map (λ t. places.I4) m.sig.params → Reads v image name (alone [] (method_of name body params))
 reads v image name m body params the some plain read form are = record {
   method = the.row;
   sig = m.sig;
   found = found v name m the some plain;
-  form = form;
+  form = (both (is_linked_form m.sig) (is_linked_body body) form).0;
   body = body;
   read = ap (λ rva. body_at image rva) (sym the.is.rva) ∙ read;
-  same = ap (λ ps. program_with (method_of name body ps)) are;
+  plain = (both (is_linked_form m.sig) (is_linked_body body) form).1;
+  same = ap (λ ps. alone [] (method_of name body ps)) are;
 }
-
-both : (a b : Bool) → (a && b) ≡ true → (a ≡ true) × (b ≡ true)
-both true b h = (refl, h)
-both false b h = absurd (cc)
 
 few_of : (n : ℕ) → nat_le n 4 ≡ true → n ≤ 4
 few_of n h = grind (arith, nat_tests)
@@ -128,7 +131,7 @@ length_int32s : (types : List SigType) → length (map (λ (t : SigType). places
 length_int32s [] = refl
 length_int32s (t ∷ types) = ap (λ n. suc n) (length_int32s types)
 
-takes : (name : List ℕ) (body : Body) (sig : MethodSig) (params : List Place) → is_linked_form sig ≡ true → params ≡ map (λ t. places.I4) sig.params → TakesInt32s (program_with (method_of name body params))
+takes : (name : List ℕ) (body : Body) (sig : MethodSig) (params : List Place) → is_linked_form sig ≡ true → params ≡ map (λ t. places.I4) sig.params → TakesInt32s (alone [] (method_of name body params))
 takes name body sig params form are =
     let few : length sig.params ≤ 4 = few_of (length sig.params) (both (not sig.has_this && is_int32 sig.ret && list_all is_int32 sig.params) (nat_le (length sig.params) 4) form).1 in
     record {
@@ -137,6 +140,14 @@ takes name body sig params form are =
       few = subst (λ ps. length ps ≤ 4) (sym are) (subst (λ n. n ≤ 4) (sym (length_int32s sig.params)) few);
       all = subst (λ ps. AllByRecursion (λ place. place ≡ places.I4) ps) (sym are) (all_int32s sig.params);
     }
+
+all_fit : (types : List SigType) → AllByRecursion (FitsPlace (types_with [])) (map (λ t. places.I4) types)
+all_fit [] = tt
+all_fit (t ∷ types) = (tt, all_fit types)
+
+-- an int32 for each parameter fits any types
+pub int32s_fit : (types : List SigType) (params : List Place) → params ≡ map (λ t. places.I4) types → AllByRecursion (FitsPlace (types_with [])) params
+int32s_fit types params are = subst (λ ps. AllByRecursion (FitsPlace (types_with [])) ps) (sym are) (all_fit types)
 
 is_integer : (integer : Integer) → IsInteger (place_of integer)
 is_integer integers.Bool = tt

@@ -1,3 +1,4 @@
 pub mod Link
 pub mod Names
+pub mod Opcodes
 pub mod Raw

@@ -1,11 +1,12 @@
 -- The program of a method of an assembly.
-use Rattle.std.specs.Prelude.{◌≡◌, ◌≢◌, ◌⊎◌, ℕ, ◌≤◌, ◌&&◌, not, nat_le, Bool, true, false, List, [], ◌∷◌, length, map, take, drop, Option, Some, None, Result, Ok, Err}
-use Rattle.std.specs.List.{AllByRecursion, list_all}
+use Rattle.std.specs.Prelude.{◌≡◌, ◌≢◌, ◌⊎◌, ℕ, ◌≤◌, ◌&&◌, not, nat_le, ◌==◌, Bool, true, false, List, [], ◌∷◌, length, map, take, drop, Option, Some, None, Result, Ok, Err}
+use Rattle.std.specs.List.{AllByRecursion, list_all, list_any}
 use Rattle.px_code.specs.declared.body.Body.{Body}
 use Rattle.px_code.specs.declared.body.BodyKind.TheVariants.{Cut}
 use Rattle.px_code.specs.declared.body.BodyFault.{BodyFault}
 use Rattle.px_code.specs.declared.body.BodyFault.TheVariants as body_faults
-use Rattle.px_code.specs.Body.{body_of}
+use Rattle.px_code.specs.declared.body.RawInstr.{RawInstr}
+use Rattle.px_code.specs.Body.{body_of, is_among, with_token}
 use Rattle.px_code.specs.Reading.{Fault}
 use Rattle.px_pe.specs.Image as pe
 use Rattle.px_pe.specs.Section.{rest_at}
@@ -14,6 +15,7 @@ use Rattle.px_program.specs.declared.program.Place.{Place}
 use Rattle.px_program.specs.declared.program.Place.TheVariants as places
 use Rattle.px_program.specs.declared.program.Method.{Method}
 use Rattle.px_program.specs.declared.program.Program.{Program}
+use Rattle.px_program.specs.Alone.{alone}
 use Rattle.px_program.specs.Formed.{entry_of}
 use Rattle.px_sig.specs.declared.sig.Integer.{Integer}
 use Rattle.px_sig.specs.declared.sig.Integer.TheVariants as integers
@@ -26,7 +28,7 @@ use Rattle.px_meta.specs.declared.meta.MetaMethod.{MetaMethod}
 use Rattle.px_link.specs.declared.fault.LinkFault.{LinkFault}
 use Rattle.px_link.specs.declared.fault.LinkFault.TheVariants as faults
 use Rattle.px_link.specs.Names.{IsNamed, IsOnly}
-use Rattle.px_link.specs.Raw.{method_of, program_with}
+use Rattle.px_link.specs.Raw.{method_of}
 
 -- the place of an integer type
 abbrev pub place_of : Integer → Place
@@ -57,9 +59,20 @@ abbrev pub is_int32 : SigType → Bool
 is_int32 (Int integers.I4) = true
 is_int32 _ = false
 
+abbrev pub is_nil : {X : Type 0} → List X → Bool
+is_nil [] = true
+is_nil (x ∷ xs) = false
+
 -- a static method of at most four int32 that returns one: the form that is linked so far
 abbrev pub is_linked_form : MethodSig → Bool
 is_linked_form sig = not sig.has_this && is_int32 sig.ret && list_all is_int32 sig.params && nat_le (length sig.params) 4
+
+abbrev pub has_token : RawInstr → Bool
+has_token instr = is_among with_token instr.opcode
+
+-- a body without locals, clauses and tokens: all that is linked so far
+abbrev pub is_linked_body : Body → Bool
+is_linked_body body = (body.locals_token == 0) && is_nil body.clauses && not (list_any has_token body.code)
 
 abbrev pub body_in : List ℕ → Option Span → Result Body Fault
 body_in bytes None = Err (Cut, 0)
@@ -98,7 +111,8 @@ pub record Reads (v : View) (image : pe.View) (name : List ℕ) (program : Progr
   pub form : is_linked_form sig ≡ true
   pub body : Body
   pub read : body_at image (cell v methods method 0) ≡ Ok body
-  pub same : program ≡ program_with (method_of name body (map (λ t. places.I4) sig.params))
+  pub plain : is_linked_body body ≡ true
+  pub same : program ≡ alone [] (method_of name body (map (λ t. places.I4) sig.params))
 
 -- a body that isn't read; a method of an assembly that is the first to be met has the number 0
 pub record HasBadBody (v : View) (image : pe.View) (name : List ℕ) (fault : Fault) : Type 0 where
@@ -107,14 +121,14 @@ pub record HasBadBody (v : View) (image : pe.View) (name : List ℕ) (fault : Fa
   pub found : IsFound v name method sig
   pub refused : body_at image (cell v methods method 0) ≡ Err fault
 
--- a method that isn't of the form that is linked so far, with the places of its parameters, where all are integers
+-- a method that isn't of the form that is linked so far, or has another body, with the places of its parameters, where all are integers
 pub record IsLater (v : View) (image : pe.View) (name : List ℕ) (params : Option (List Place)) : Type 0 where
   pub method : ℕ
   pub sig : MethodSig
   pub found : IsFound v name method sig
-  pub other_form : is_linked_form sig ≡ false
   pub body : Body
   pub read : body_at image (cell v methods method 0) ≡ Ok body
+  pub other_form : is_linked_form sig && is_linked_body body ≡ false
   pub params_are : params ≡ places_of sig.params
 
 -- two methods of one name
@@ -151,18 +165,8 @@ pub record TakesInt32s (program : Program) : Type 0 where
   pub few : length method.params ≤ 4
   pub all : AllByRecursion (λ place. place ≡ places.I4) method.params
 
--- a place that holds no reference
-abbrev pub IsInteger : Place → Type 0
-IsInteger (places.Ref type) = ⊥
-IsInteger places.Bool = Unit {0}
-IsInteger places.Char = Unit {0}
-IsInteger places.I1 = Unit {0}
-IsInteger places.U1 = Unit {0}
-IsInteger places.I2 = Unit {0}
-IsInteger places.U2 = Unit {0}
-IsInteger places.I4 = Unit {0}
-IsInteger places.U4 = Unit {0}
-IsInteger places.I8 = Unit {0}
-IsInteger places.U8 = Unit {0}
-IsInteger places.N = Unit {0}
-IsInteger places.UN = Unit {0}
+-- why a raw body isn't linked
+abbrev pub BlamesRaw : Body → LinkFault → Type 0
+BlamesRaw body faults.Memory = Unit {0}
+BlamesRaw body faults.RawLocals = body.locals_token ≢ 0
+BlamesRaw body _ = ⊥

@@ -221,3 +221,41 @@ fn refuses_methods(rt: HostRuntime) -> Result<(), Fail> {
     }
     Ok(())
 }
+
+// Bodies of a method of the linked form, and whether they're linked: one with a header of twelve bytes, and others that have a token, locals
+// and a clause.
+const BODIES: [(Bytes, bool); 4] = [
+    (&[0x03, 0x30, 8, 0, 1, 0, 0, 0, 0, 0, 0, 0, 0x2A], true),
+    (&[0x1A, 0x72, 1, 0, 0, 0x70, 0x2A], false),
+    (&[0x03, 0x30, 8, 0, 1, 0, 0, 0, 1, 0, 0, 0x11, 0x2A], false),
+    (
+        &[
+            0x0B, 0x30, 8, 0, 3, 0, 0, 0, 0, 0, 0, 0, 0, 0, 0x2A, 0, //
+            1, 16, 0, 0, 2, 0, 0, 0, 1, 1, 0, 1, 0, 0, 0, 0,
+        ],
+        false,
+    ),
+];
+
+// Each body stands in place of blobs that no row names, and is that of the first method.
+#[test]
+fn links_plain_bodies(rt: HostRuntime) -> Result<(), Fail> {
+    for (body, is_linked) in BODIES {
+        let mut file = assembly(&[(150, 0x74), (151, 0x21)]);
+        for (target, byte) in file.iter_mut().skip(METADATA + 276).zip(body) {
+            *target = *byte;
+        }
+        match linked(&rt, &file, "Demo.T::F") {
+            Ok(_) => assert!(rt; is_linked),
+            Err(fault) => {
+                assert!(rt; !is_linked);
+                let told = format!(in rt.alloc(); "{fault:?}")?;
+                assert_eq!(rt;
+                    told.as_str(),
+                    "Later { params: Some(Items { items: [I4] }) }"
+                );
+            }
+        }
+    }
+    Ok(())
+}

@@ -4,12 +4,12 @@ ghost use Rattle.std.specs.List.{AllByRecursion};
 ghost use Rattle.px_code.specs.Body.{IsFormed};
 ghost use Rattle.px_code.specs.Reading.{Gives};
 ghost use Rattle.px_pe.specs.Image as pe;
-ghost use Rattle.px_program.specs.Formed.{IsWellFormed};
+ghost use Rattle.px_program.specs.Formed.{IsInteger, IsWellFormed};
 ghost use Rattle.px_program.specs.declared.program.Place.{Place};
-ghost use Rattle.px_link.specs.Link.{Blames, IsInteger, IsTheMethod, Reads, TakesInt32s, bad_body, body_at};
+ghost use Rattle.px_link.specs.Link.{Blames, IsTheMethod, Reads, TakesInt32s, bad_body, body_at};
 
 use crate::LinkFault;
-use crate::form::{int32s, is_linked_form, places_of};
+use crate::form::{int32s, is_linked, places_of};
 use crate::name::is_named;
 use crate::raw::program_with;
 use px_code::{Body, BodyFault, BodyKind, read_body};
@@ -63,8 +63,8 @@ fn bad_body(fault: BodyFault) -> LinkFault
 }
 
 /// The program of the one method of this name: `Namespace.Type::Name`, where a nested type is `Outer/Inner`. A static method of at most four
-/// int32 that returns one is linked so far. The faults are told in this order: no method of the name, more than one, no body or a signature
-/// that isn't plain, a body that isn't read, another form of method.
+/// int32 that returns one, with neither locals nor clauses nor tokens in its body, is linked so far. The faults are told in this order: no method
+/// of the name, more than one, no body or a signature that isn't plain, a body that isn't read, another form of method or body.
 pub fn link(alloc: Global, meta: &Meta, image: &Image, name: &str) -> Result<Program, LinkFault>
     ensures reads { IfOk result (Reads meta.now image.now name.now) }
     ensures well_formed { IfOk result IsWellFormed }
@@ -82,11 +82,11 @@ pub fn link(alloc: Global, meta: &Meta, image: &Image, name: &str) -> Result<Pro
         Err(fault) => return Err(bad_body(fault)),
     };
     let params = method.sig.params.as_slice();
-    if !is_linked_form(&method.sig) {
+    if !is_linked(&method.sig, &body) {
         return Err(LinkFault::Later {
             params: places_of(alloc, params)?,
         });
     }
     let params = int32s(alloc, params)?;
-    Ok(program_with(alloc, name, &body, &params)?)
+    Ok(program_with(alloc, &[], name, &body, &params)?)
 }

@@ -1,42 +1,20 @@
-// What an instruction does, by its opcode.
-ghost use Rattle.std.specs.Prelude.{◌≡◌, ◌<◌, ◌++◌, false, IfOk, OnOk};
-ghost use Rattle.px_link.specs.Raw.{code_by, hex_byte, hex_digit, opcode_name, signed_byte, test_of};
+// What instructions without a token do, by their opcodes.
+ghost use Rattle.std.specs.Prelude.{◌≡◌, ◌<◌, true, false, length, slice_index, IfOk, Option, Some, None};
+ghost use Rattle.px_link.specs.Opcodes as spec;
+ghost use Rattle.px_link.specs.Opcodes.{◌orelse◌};
 
-use px_program::{Arithmetic, Code, Move, Name, Test};
-use sqlite_items::Items;
+use crate::arrays::element_code;
+use crate::flow::flow_code;
+use crate::numbers::{arithmetic_code, checked_code, conversion_code};
+use crate::outside::outside;
+use px_code::RawInstr;
+use px_program::{Code, Move};
 use std::alloc::{AllocError, Global};
-
-// A capital hexadecimal digit.
-fn hex_digit(n: u8) -> u8
-    requires { n < 16 }
-    ensures { result ≡ hex_digit n }
-{
-    if n < 10 { b'0' + n } else { b'A' + (n - 10) }
-}
-
-fn push_hex(name: &mut Vec<u8>, byte: u8) -> Result<(), AllocError>
-    ensures { OnOk result (name.new.items ≡ name.old.items ++ hex_byte byte) }
-{
-    name.extend_from_slice(&[hex_digit(byte / 16), hex_digit(byte % 16)])
-}
-
-// The name of an instruction that isn't run.
-fn opcode_name(alloc: Global, opcode: u16) -> Result<Name, AllocError>
-    ensures { IfOk result (λ name. name ≡ opcode_name opcode) }
-{
-    let mut name = Vec::from_slice(alloc, b"opcode-")?;
-    if opcode >= 0x100 {
-        push_hex(&mut name, (opcode / 0x100) as u8)?;
-        name.push(b'-')?;
-    }
-    push_hex(&mut name, (opcode % 0x100) as u8)?;
-    Ok(Items::from_vec(name))
-}
 
 // A byte with its sign, as a pattern of 32 bits.
 fn signed_byte(byte: u64) -> u64
     requires { byte < 256 }
-    ensures { result ≡ signed_byte byte }
+    ensures { result ≡ spec.signed_byte byte }
 {
     if byte < 128 {
         byte
@@ -45,64 +23,133 @@ fn signed_byte(byte: u64) -> u64
     }
 }
 
-// What a branch from `beq` to `blt.un` compares by.
-fn test_of(opcode: u16) -> Test
-    ensures { result ≡ test_of opcode }
+// An int32 on the stack.
+fn constant(pattern: u64) -> Move
+    ensures { result ≡ Move.Constant false pattern }
 {
-    match opcode {
-        0x2E => Test::Eq,
-        0x33 => Test::Ne,
-        0x2F | 0x34 => Test::Ge,
-        0x30 | 0x35 => Test::Gt,
-        0x31 | 0x36 => Test::Le,
-        _ => Test::Lt,
+    Move::Constant {
+        wide: false,
+        pattern,
     }
 }
 
-// An instruction that puts an int32 on the stack.
-fn constant(pattern: u64) -> Code
-    ensures { result ≡ Code.Move (Move.Constant false pattern) }
+// An int64 on the stack.
+fn wide_constant(pattern: u64) -> Move
+    ensures { result ≡ Move.Constant true pattern }
 {
-    Code::Move(Move::Constant {
-        wide: false,
+    Move::Constant {
+        wide: true,
         pattern,
+    }
+}
+
+// A move from or to a slot, whose number stands in the opcode, in one byte or in two.
+#[tactic(auto, unfolding(crate::specs::Opcodes::slot_move))]
+fn slot_move(opcode: u16, operand: u64) -> Option<Move>
+    ensures { result ≡ spec.slot_move opcode operand }
+{
+    let small = (operand % (1 << 8)) as u32;
+    let large = (operand % (1 << 16)) as u32;
+    Some(match opcode {
+        0x02..=0x05 => Move::Argument(u32::from(opcode) - 0x02),
+        0x06..=0x09 => Move::Local(u32::from(opcode) - 0x06),
+        0x0A..=0x0D => Move::SetLocal(u32::from(opcode) - 0x0A),
+        0x0E => Move::Argument(small),
+        0x10 => Move::SetArgument(small),
+        0x11 => Move::Local(small),
+        0x13 => Move::SetLocal(small),
+        0xFE09 => Move::Argument(large),
+        0xFE0B => Move::SetArgument(large),
+        0xFE0C => Move::Local(large),
+        0xFE0E => Move::SetLocal(large),
+        _ => return None,
     })
 }
 
-// A branch that compares two values.
-fn compare(opcode: u16, signed: bool, target: u32) -> Code
-    ensures { result ≡ Code.BranchCompare (test_of opcode) signed target }
+// A constant, or what moves on the stack alone.
+#[tactic(auto, unfolding(crate::specs::Opcodes::stack_move))]
+fn stack_move(opcode: u16, operand: u64) -> Option<Move>
+    ensures { result ≡ spec.stack_move opcode operand }
 {
-    Code::BranchCompare {
-        test: test_of(opcode),
-        signed,
-        target,
-    }
-}
-
-/// What an instruction does, by its opcode, its operand and its first target.
-#[tactic(auto, unfolding(crate::specs::Raw::code_by))]
-pub fn code_by(alloc: Global, opcode: u16, operand: u64, target: u32) -> Result<Code, AllocError>
-    ensures { IfOk result (λ code. code ≡ code_by opcode operand target) }
-{
-    Ok(match opcode {
-        0x00 => Code::Nop,
-        0x02..=0x05 => Code::Move(Move::Argument(u32::from(opcode) - 0x02)),
+    Some(match opcode {
+        0x14 => Move::Null,
         0x15 => constant(0xFFFF_FFFF),
         0x16..=0x1E => constant(u64::from(opcode) - 0x16),
         0x1F => constant(signed_byte(operand % (1 << 8))),
         0x20 => constant(operand % (1 << 32)),
-        0x2A => Code::Return,
-        0x2B => Code::Branch(target),
-        0x2C => Code::BranchTruth {
-            when: false,
-            target,
-        },
-        0x2D => Code::BranchTruth { when: true, target },
-        0x2E..=0x32 => compare(opcode, true, target),
-        0x33..=0x37 => compare(opcode, false, target),
-        0x58 => Code::Arithmetic(Arithmetic::Add),
-        0x59 => Code::Arithmetic(Arithmetic::Sub),
-        _ => Code::Outside(opcode_name(alloc, opcode)?, opcode),
+        0x21 => wide_constant(operand),
+        0x25 => Move::Duplicate,
+        0x26 => Move::Pop,
+        _ => return None,
     })
+}
+
+// What moves values between slots and the stack, or on the stack alone.
+fn move_code(opcode: u16, operand: u64) -> Option<Code>
+    ensures { result ≡ spec.moves (spec.slot_move opcode operand) orelse spec.moves (spec.stack_move opcode operand) }
+{
+    if let Some(step) = slot_move(opcode, operand) {
+        return Some(Code::Move(step));
+    }
+    Some(Code::Move(stack_move(opcode, operand)?))
+}
+
+// What belongs to no other family.
+#[tactic(auto, unfolding(crate::specs::Opcodes::other_code))]
+fn other_code(opcode: u16) -> Option<Code>
+    ensures { result ≡ spec.other_code opcode }
+{
+    Some(match opcode {
+        0x00 => Code::Nop { is_break: false },
+        0x01 => Code::Nop { is_break: true },
+        0x2A => Code::Return,
+        0x7A => Code::Throw { again: false },
+        0x8E => Code::Length,
+        0xDC => Code::EndFinally,
+        0xFE1A => Code::Throw { again: true },
+        _ => return None,
+    })
+}
+
+// Moves, arithmetic, comparisons and conversions.
+fn simple_code(opcode: u16, operand: u64) -> Option<Code>
+    ensures { result ≡ (spec.moves (spec.slot_move opcode operand) orelse spec.moves (spec.stack_move opcode operand))
+        orelse spec.arithmetic_code opcode orelse spec.checked_code opcode
+        orelse (spec.converts (spec.converted opcode) orelse spec.converts_checked true (spec.converted_checked opcode) orelse spec.converts_checked false (spec.converted_unsigned opcode)) }
+{
+    move_code(opcode, operand)
+        .or(arithmetic_code(opcode))
+        .or(checked_code(opcode))
+        .or(conversion_code(opcode))
+}
+
+// Elements of arrays, and what belongs to no other family.
+fn late_code(opcode: u16) -> Option<Code>
+    ensures { result ≡ (spec.reaches false (spec.loaded opcode) orelse spec.reaches true (spec.stored opcode)) orelse spec.other_code opcode }
+{
+    element_code(opcode).or(other_code(opcode))
+}
+
+// What an instruction without a token does, where it is one that is known.
+fn plain_code(alloc: Global, raw: &RawInstr) -> Result<Option<Code>, AllocError>
+    ensures { IfOk result (λ code. code ≡ spec.plain_code raw.now) }
+{
+    let opcode = raw.opcode;
+    if let Some(code) = simple_code(opcode, raw.operand) {
+        return Ok(Some(code));
+    }
+    if let Some(code) = flow_code(alloc, opcode, raw.targets.as_slice())? {
+        return Ok(Some(code));
+    }
+    Ok(late_code(opcode))
+}
+
+/// What an instruction does; one with a token, or that isn't known, is outside.
+pub fn code_of(alloc: Global, raw: &RawInstr) -> Result<Code, AllocError>
+    ensures { IfOk result (λ code. code ≡ spec.known_or_outside raw.now.opcode (spec.plain_code raw.now)) }
+{
+    match plain_code(alloc, raw)? {
+        Some(code) => Ok(code),
+        None => outside(alloc, raw.opcode),
+    }
 }

@@ -1,28 +1,31 @@
 // The program of a raw body.
-ghost use Rattle.std.specs.Prelude.{◌≡◌, ◌≢◌, ◌≤◌, length, map, Err, IfOk};
+ghost use Rattle.std.specs.Prelude.{◌≡◌, ◌≢◌, ◌≤◌, ◌<◌, ◌^◌, ◌==◌, None, length, map, IfOk, IfErr};
+ghost use Rattle.std.specs.List.{AllByRecursion};
 ghost use Rattle.px_code.specs.Body.{IsFormed};
-ghost use Rattle.px_program.specs.Formed.{IsWellFormed};
-ghost use Rattle.px_link.specs.Raw.{instr_of, method_of, program_of, program_with};
+ghost use Rattle.px_program.specs.Alone.{alone, types_with};
+ghost use Rattle.px_program.specs.Formed.{FitsPlace, IsInteger, IsWellFormed};
+ghost use Rattle.px_link.specs.Link.{BlamesRaw};
+ghost use Rattle.px_link.specs.Raw.{clause_of, instr_of, kind_of, method_of, program_of};
 
 use crate::LinkFault;
-use crate::opcode::code_by;
-use px_code::{Body, RawInstr};
-use px_program::{Instr, Method, Place, Program};
+use crate::opcode::code_of;
+use crate::params::{elements_of, params_of};
+use px_code::{Body, RawClause, RawInstr};
+use px_program::{Clause, ClauseKind, Instr, Method, Place, Program, alone};
 use sqlite_items::Items;
 use std::alloc::{AllocError, Global};
 
 fn instr_of(alloc: Global, raw: &RawInstr) -> Result<Instr, AllocError>
     ensures { IfOk result (λ instr. instr ≡ instr_of raw.now) }
 {
-    let target = raw.targets.as_slice().first().copied().unwrap_or(0);
     Ok(Instr {
         offset: raw.offset,
         next: raw.next,
-        code: code_by(alloc, raw.opcode, raw.operand, target)?,
+        code: code_of(alloc, raw)?,
     })
 }
 
-fn code_of(alloc: Global, raws: &[RawInstr]) -> Result<Vec<Instr>, AllocError>
+fn instrs_of(alloc: Global, raws: &[RawInstr]) -> Result<Vec<Instr>, AllocError>
     ensures { IfOk result (λ code. code.items ≡ map instr_of raws.now) }
 {
     let mut code = Vec::new(alloc);
@@ -30,6 +33,38 @@ fn code_of(alloc: Global, raws: &[RawInstr]) -> Result<Vec<Instr>, AllocError>
         code.push(instr_of(alloc, raw)?)?;
     }
     Ok(code)
+}
+
+// The kind of a clause by its flags.
+fn kind_of(flags: u32) -> ClauseKind
+    ensures { result ≡ kind_of flags }
+{
+    match flags {
+        0 => ClauseKind::Catch,
+        1 => ClauseKind::Filter,
+        2 => ClauseKind::Finally,
+        _ => ClauseKind::Fault,
+    }
+}
+
+// The clause of no class.
+fn clause_of(raw: &RawClause) -> Clause
+    ensures { result ≡ clause_of None raw.now }
+{
+    Clause {
+        kind: kind_of(raw.flags),
+        from: raw.from,
+        to: raw.to,
+        start: raw.start,
+        stop: raw.stop,
+        class: None,
+    }
+}
+
+fn clauses_of(alloc: Global, raws: &[RawClause]) -> Result<Vec<Clause>, AllocError>
+    ensures { IfOk result (λ clauses. clauses.items ≡ map (clause_of None) raws.now) }
+{
+    raws.iter().map(|raw| clause_of(raw)).collect(alloc)
 }
 
 // The static method of this name with these parameters that returns an int32.
@@ -49,46 +84,52 @@ fn method_of(
         ret: Some(Place::I4),
         locals: Items::new(alloc),
         max_stack: body.max_stack,
-        code: Items::from_vec(code_of(alloc, body.code.as_slice())?),
-        clauses: Items::new(alloc),
+        code: Items::from_vec(instrs_of(alloc, body.code.as_slice())?),
+        clauses: Items::from_vec(clauses_of(alloc, body.clauses.as_slice())?),
     })
 }
 
-/// The program of this method alone.
-#[tactic(auto, using(crate::proofs::Formed::well_formed))]
+/// The program of this method alone, over the arrays of these elements.
+#[tactic(auto, using(crate::proofs::Formed::begins))]
 pub fn program_with(
     alloc: Global,
+    elements: &[Place],
     name: &[u8],
     body: &Body,
     params: &[Place],
 ) -> Result<Program, AllocError>
-    requires { IsFormed body.now }
-    ensures program { IfOk result (λ p. p ≡ program_with (method_of name.now body.now params.now)) }
+    requires formed { IsFormed body.now }
+    requires integers { AllByRecursion IsInteger elements.now }
+    requires params { AllByRecursion (FitsPlace (types_with elements.now)) params.now }
+    ensures program { IfOk result (λ p. p ≡ alone elements.now (method_of name.now body.now params.now)) }
     ensures well_formed { IfOk result IsWellFormed }
 {
-    let mut methods = Items::new(alloc);
-    methods.push(method_of(alloc, name, body, params)?)?;
-    Ok(Program {
-        types: Items::new(alloc),
-        methods,
-        entry: 0,
-        maker: None,
-    })
+    let method = method_of(alloc, name, body, params)?;
+    alone(alloc, elements, method)
 }
 
-/// The program of one static method with these parameters that returns an int32 and has the body as `read_body` gives it.
-/// RawLocals comes exactly where the body names a signature of locals.
-#[tactic(auto, unfolding(crate::specs::Raw::program_of))]
-pub fn link_raw(alloc: Global, body: &Body, params: &[Place]) -> Result<Program, LinkFault>
+/// The program of one static method that returns an int32 and has the body as `read_body` gives it. Its parameters have these places,
+/// or are arrays of these where `elements` says so. RawLocals comes exactly where the body names a signature of locals.
+#[tactic(auto, using(crate::proofs::Elements::elements_integers, crate::proofs::Elements::elements_few))]
+pub fn link_raw(
+    alloc: Global,
+    body: &Body,
+    params: &[Place],
+    elements: &[bool],
+) -> Result<Program, LinkFault>
     requires formed { IsFormed body.now }
-    requires params { length params.now ≤ 16 }
-    ensures program { IfOk result (λ p. p ≡ program_of body.now params.now) }
+    requires count { length params.now ≤ 16 }
+    requires pairs { length elements.now ≡ length params.now }
+    requires integers { AllByRecursion IsInteger params.now }
+    ensures program { IfOk result (λ p. p ≡ program_of body.now params.now elements.now) }
     ensures well_formed { IfOk result IsWellFormed }
     ensures no_locals { IfOk result (λ _. body.now.locals_token ≡ 0) }
-    ensures raw_locals { result ≡ Err LinkFault.RawLocals → body.now.locals_token ≢ 0 }
+    ensures fault { IfErr result (BlamesRaw body.now) }
 {
     if body.locals_token != 0 {
         return Err(LinkFault::RawLocals);
     }
-    Ok(program_with(alloc, b"raw", body, params)?)
+    let places = elements_of(alloc, params, elements)?;
+    let params = params_of(alloc, &places, params, elements)?;
+    Ok(program_with(alloc, &places, b"raw", body, &params)?)
 }

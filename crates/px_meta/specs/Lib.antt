@@ -1,5 +1,6 @@
 pub mod Chains
 pub mod Faults
+pub mod FullNames
 pub mod Impls
 pub mod Members
 pub mod Overriding

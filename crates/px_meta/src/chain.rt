@@ -4,7 +4,7 @@ ghost use Rattle.px_meta.specs.Chains.{base_in, outer_of};
 ghost use Rattle.px_meta.specs.Rows.{count_of, type_defs};
 ghost use Rattle.px_meta.specs.Walks.{AreKnown, AreNexts, AreOf, AreVerdicts, AreWalked, IsVerdict};
 
-use crate::table::{NESTED_CLASSES, TYPE_DEFS, base_in, cell_of, some_row};
+use crate::table::{NESTED_CLASSES, TYPE_DEFS, base_in, cell_of, set_row, some_row};
 use px_tables::Tables;
 use std::alloc::{AllocError, Global};
 
@@ -19,16 +19,6 @@ pub fn bases_of(alloc: Global, tables: &Tables) -> Result<Vec<Option<u32>>, Allo
     Ok(bases)
 }
 
-// Sets what a type is nested in.
-pub fn set_outer(outers: &mut [Option<u32>], nested: usize, outer: Option<u32>)
-    ensures named { 1 ≤ nested → nested ≤ length outers.old → slice_index_or outers.new (nested - 1) None ≡ outer }
-    ensures others { (row : ℕ) → 1 ≤ row → row ≢ nested → slice_index_or outers.new (row - 1) None ≡ slice_index_or outers.old (row - 1) None }
-{
-    if 1 <= nested && nested <= outers.len() {
-        outers[nested - 1] = outer;
-    }
-}
-
 // The types that all types are nested in. Rows are walked from the last one, so that the first for a type counts.
 pub fn outers_of(alloc: Global, tables: &Tables) -> Result<Vec<Option<u32>>, AllocError>
     ensures { IfOk result (λ outers. AreOf (outer_of tables.now) (count_of tables.now type_defs) outers.items) }
@@ -37,7 +27,7 @@ pub fn outers_of(alloc: Global, tables: &Tables) -> Result<Vec<Option<u32>>, All
     for n in (0..tables.rows(NESTED_CLASSES)).rev() {
         let nested = cell_of(tables, NESTED_CLASSES, n + 1, 0);
         let outer = some_row(tables, TYPE_DEFS, cell_of(tables, NESTED_CLASSES, n + 1, 1));
-        set_outer(&mut outers, nested as usize, outer);
+        set_row(&mut outers, nested as usize, outer);
     }
     Ok(outers)
 }

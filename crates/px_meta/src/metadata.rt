@@ -70,9 +70,10 @@ pub fn resolve<'a>(alloc: Global, tables: Tables<'a>) -> Result<Meta<'a>, MetaFa
 }
 
 impl<'a> Meta<'a> {
-    /// The tables.
+    /// The tables, of which `resolve` made sure that no row has a fault.
     pub fn tables(&self) -> &Tables<'a>
-        ensures { result.now ≡ self.now }
+        ensures same { result.now ≡ self.now }
+        ensures faultless { IsFaultless self.now }
     {
         &self.tables
     }

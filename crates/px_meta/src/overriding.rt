@@ -8,10 +8,9 @@ ghost use Rattle.px_meta.specs.Resolved.{AllEnd};
 ghost use Rattle.px_meta.specs.Rows.{IsRow, method_impls, methods, row_by, type_defs};
 ghost use Rattle.px_meta.specs.Tokens.{AreRows};
 
-use crate::chain::set_outer;
 use crate::meta::MetaMethod;
 use crate::table::{
-    METHOD_IMPLS, METHODS, TYPE_DEFS, base_in, cell_of, list_end, list_start, some_row,
+    METHOD_IMPLS, METHODS, TYPE_DEFS, base_in, cell_of, list_end, list_start, set_row, some_row,
 };
 use px_sig::same_sig;
 use px_tables::Tables;
@@ -112,7 +111,7 @@ pub fn declared_of(
         let Some((body, declaration)) = said(tables, members, n + 1) else {
             continue;
         };
-        set_outer(&mut declared, body as usize, Some(declaration));
+        set_row(&mut declared, body as usize, Some(declaration));
     }
     Ok(declared)
 }

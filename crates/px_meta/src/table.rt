@@ -1,5 +1,5 @@
 // Rows, and what their cells name.
-ghost use Rattle.std.specs.Prelude.{◌≡◌, ◌≤◌, ◌<◌, MatchOption};
+ghost use Rattle.std.specs.Prelude.{◌≡◌, ◌≢◌, ◌-◌, ◌≤◌, ◌<◌, ℕ, length, slice_index_or, MatchOption};
 ghost use Rattle.px_blobs.specs.Items.{IsStringAt};
 ghost use Rattle.px_meta.specs.Faults.{HasNames};
 ghost use Rattle.px_meta.specs.Chains.{base_in};
@@ -140,5 +140,15 @@ pub fn row_named(tables: &Tables, table: u8, token: u32) -> Option<u32>
         some_row(tables, table, token % 0x100_0000)
     } else {
         None
+    }
+}
+
+// Sets what is kept for a row, where there is such a row.
+pub fn set_row(kept: &mut [Option<u32>], row: usize, value: Option<u32>)
+    ensures named { 1 ≤ row → row ≤ length kept.old → slice_index_or kept.new (row - 1) None ≡ value }
+    ensures others { (other : ℕ) → 1 ≤ other → other ≢ row → slice_index_or kept.new (other - 1) None ≡ slice_index_or kept.old (other - 1) None }
+{
+    if 1 <= row && row <= kept.len() {
+        kept[row - 1] = value;
     }
 }

@@ -1,11 +1,11 @@
 -- Events are told apart by their numbers.
-use Rattle.std.proofs.Common.{◌≡◌, ℕ, zero, suc, List, [], ◌∷◌, Bool, true, false, refl, sym, ap, ◌∙◌, arith}
-use Rattle.std.specs.Prelude.{◌&&◌, ◌==◌}
+use Rattle.std.proofs.Common.{◌≡◌, ℕ, zero, suc, List, [], ◌∷◌, true, refl, sym, ap, ◌∙◌, arith}
+use Rattle.std.specs.Prelude.{◌==◌}
 use Rattle.px_program.specs.declared.record.SiteKind.{SiteKind}
 use Rattle.px_program.specs.declared.record.SiteKind.TheVariants as kinds
 use Rattle.px_program.specs.declared.record.Event.{Event}
 use Rattle.px_program.specs.Paths.{Path}
-use Rattle.px_program.specs.Paths.{kind_number, site_eq, event_eq, path_eq}
+use Rattle.px_program.specs.Paths.{kind_number, event_eq, path_eq}
 
 nth : List SiteKind → ℕ → SiteKind
 nth [] n = kinds.Shape

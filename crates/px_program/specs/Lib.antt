@@ -1,2 +1,4 @@
+pub mod Alone
 pub mod Formed
+pub mod Library
 pub mod Paths

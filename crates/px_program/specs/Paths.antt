@@ -1,5 +1,5 @@
 -- Paths: lists of events.
-use Rattle.std.specs.Prelude.{◌≡◌, ℕ, ◌<◌, List, [], ◌∷◌, ◌==◌, ◌&&◌, Bool, true, false, Option, Some, None, length, take, slice_get}
+use Rattle.std.specs.Prelude.{◌≡◌, ℕ, List, ◌==◌, ◌&&◌, Bool, true, false, Option, Some, None, length, take, slice_get}
 use Rattle.std.specs.Cmp.Lexicographic.{pointwise}
 use Rattle.px_program.specs.declared.record.SiteKind.{SiteKind}
 use Rattle.px_program.specs.declared.record.SiteKind.TheVariants as kinds

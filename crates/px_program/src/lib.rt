@@ -2,13 +2,20 @@
 #![tactic(auto)]
 
 mod instr;
+mod library;
 mod program;
 mod record;
 mod same;
+mod single;
 #[cfg(test)]
 mod tests;
 
-pub use instr::{Arithmetic, Code, Compare, Instr, Move, Test};
+pub use instr::{
+    Arithmetic, Callee, Check, Checked, Code, Compare, Division, ElementForm, Field, Instr,
+    IntegerType, Move, Shift, Test, Text, Unary,
+};
+pub use library::library_types;
 pub use program::{Clause, ClauseKind, Method, Name, Place, Program, TypeInfo};
 pub use record::{Bounds, End, Event, Limits, Record, Site, SiteKind, Value, Words};
 pub use same::is_same_path;
+pub use single::alone;

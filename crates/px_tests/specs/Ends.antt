@@ -26,14 +26,8 @@ type_name program class = name_in (slice_get program.types class)
 
 -- the name of what an instruction that isn't run would need
 abbrev pub outside_of : Code → List ℕ
-outside_of codes_of.Nop = []
-outside_of (codes_of.Move move) = []
-outside_of (codes_of.Arithmetic operation) = []
-outside_of (codes_of.Branch target) = []
-outside_of (codes_of.BranchTruth when target) = []
-outside_of (codes_of.BranchCompare test signed target) = []
-outside_of codes_of.Return = []
 outside_of (codes_of.Outside name opcode) = name
+outside_of _ = []
 
 abbrev pub outside_in : Option Instr → List ℕ
 outside_in None = []

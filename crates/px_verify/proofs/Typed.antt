@@ -11,7 +11,7 @@ use Rattle.px_program.specs.declared.program.Method.{Method}
 use Rattle.px_program.specs.declared.program.Place.{Place}
 use Rattle.px_program.specs.declared.program.Place.TheVariants as places
 use Rattle.px_program.specs.declared.program.Program.{Program}
-use Rattle.px_program.specs.Formed.{instr_at, Follow, targets_of, is_start, IsFormed, entry_of}
+use Rattle.px_program.specs.Formed.{instr_at, Follow, targets_of, is_start, IsFormed, IsFormedIn, HasMethod, HasCode, CanBegin, entry_of}
 use Rattle.px_verify.specs.Simple.{taken, is_turn, is_last, is_int32, has_value, is_known, is_target, after, is_fine, has_more, fault_from, fault_in, IsSimple}
 use Rattle.px_verify.specs.Typing.{depth_from, At, HasValue, Fits, IsTyped}
 
@@ -181,6 +181,7 @@ int32_place (Some _) h = absurd (cc)
 valued : (method : Method) (move : Move) → has_value method.params move ≡ true → HasValue method move
 valued method (moves.Argument n) h = int32_place (slice_get method.params n) h
 valued method (moves.Constant wide pattern) h = (grind arith, grind arith)
+valued method _ h = absurd (cc)
 
 -- along an equation of depths
 at_depth : (method : Method) (at m n : ℕ) → m ≡ n → At method at m → At method at n
@@ -210,13 +211,17 @@ module _ (method : Method) (offset next depth : ℕ) (more : Bool) where
   aims : (target : ℕ) → list_any (λ t. t == target) (target ∷ []) ≡ true
   aims target = rw (same_number target target refl) refl
 
+  -- no other instruction may stand
+  unknown : false ≡ true → ⊥
+  unknown h = cc
+
   -- a case for each row
   fits : (code : Code) → Fine method code offset depth more → Leads code → Fits method next depth code
-  fits codes.Nop fine leads = goes_on codes.Nop depth fine leads refl (omega arith)
+  fits (codes.Nop is_break) fine leads = goes_on (codes.Nop is_break) depth fine leads refl (omega arith)
   fits (codes.Move move) fine leads =
       (valued method move fine.known, goes_on (codes.Move move) (depth + 1) fine leads refl (omega arith))
   fits (codes.Arithmetic operation) fine leads =
-      (fine.operands, goes_on (codes.Arithmetic operation) (depth - 1) fine leads refl (omega (arith, fine.operands)))
+      (fine.known, fine.operands, goes_on (codes.Arithmetic operation) (depth - 1) fine leads refl (omega (arith, fine.operands)))
   fits (codes.Branch target) fine leads = jumps_to (codes.Branch target) target depth leads (aims target) (grind (arith, fine.turn))
   fits (codes.BranchTruth when target) fine leads =
       let code = codes.BranchTruth when target in (
@@ -231,11 +236,11 @@ module _ (method : Method) (offset next depth : ℕ) (more : Bool) where
         jumps_to code target (depth - 2) leads (aims target) (grind (arith, fine.turn)),
       )
   fits codes.Return fine leads = fine.operands
-  fits (codes.Outside name opcode) fine leads = tt
+  fits _ fine leads = absurd (unknown fine.known)
 
 -- Methods that were accepted.
 
-module _ (method : Method) (formed : IsFormed method) (accepted : fault_from method 0 method.code ≡ None) where
+module _ (method : Method) (some : method.code ≢ []) (formed : IsFormed method) (accepted : fault_from method 0 method.code ≡ None) where
   -- the walk of the whole code
   comes_to : (at depth : ℕ) → At method at depth → Comes method 0 0 method.code at depth
   comes_to at depth h = comes method 0 0 method.code at depth formed.follow accepted h
@@ -270,7 +275,7 @@ module _ (method : Method) (formed : IsFormed method) (accepted : fault_from met
 
   typed : IsTyped method
   typed = record {
-    start = begun method.code formed.some formed.follow;
+    start = begun method.code some formed.follow;
     there = λ at depth h. subst (λ o. IsSome o) (sym (comes_to at depth h).found) refl;
     each = each;
   }
@@ -278,5 +283,7 @@ module _ (method : Method) (formed : IsFormed method) (accepted : fault_from met
 -- the entry of a program that was accepted
 pub entry_typed : (program : Program) (entry : Method) → IsSimple program → entry_of program ≡ Some entry → IsTyped entry
 entry_typed program entry simple found =
-    let formed : IsFormed entry = all_get IsFormed program.methods program.entry entry simple.formed.methods found in
-    typed entry formed (ap fault_in (sym found) ∙ simple.fine)
+    let begins : HasMethod (CanBegin program) program program.entry = simple.formed.entry in
+    let same : begins.method ≡ entry = some_same begins.method entry (sym begins.at ∙ found) in
+    let formed : IsFormedIn program entry = all_get (IsFormedIn program) program.methods program.entry entry simple.formed.methods found in
+    typed entry (subst HasCode same begins.is.code) formed.formed (ap fault_in (sym found) ∙ simple.fine)

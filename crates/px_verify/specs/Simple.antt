@@ -2,6 +2,8 @@
 -- The code is walked in order, with the number of operands on the stack.
 use Rattle.std.specs.Prelude.{◌≡◌, ℕ, ◌+◌, ◌-◌, ◌^◌, List, [], ◌∷◌, ◌==◌, ◌&&◌, ◌||◌, not, nat_lt, nat_le, Bool, true, false, if◌then◌else◌, Option, Some, None, slice_get}
 use Rattle.std.specs.List.{list_any}
+use Rattle.px_program.specs.declared.instr.Arithmetic.{Arithmetic}
+use Rattle.px_program.specs.declared.instr.Arithmetic.TheVariants as arithmetic
 use Rattle.px_program.specs.declared.instr.Instr.{Instr}
 use Rattle.px_program.specs.declared.instr.Code.{Code}
 use Rattle.px_program.specs.declared.instr.Code.TheVariants as codes
@@ -11,51 +13,37 @@ use Rattle.px_program.specs.declared.program.Method.{Method}
 use Rattle.px_program.specs.declared.program.Place.{Place}
 use Rattle.px_program.specs.declared.program.Place.TheVariants as places
 use Rattle.px_program.specs.declared.program.Program.{Program}
+use Rattle.px_verify.specs.declared.simple_methods.SimpleFault.{SimpleFault}
+use Rattle.px_verify.specs.declared.simple_methods.SimpleFault.TheVariants as faults
 use Rattle.px_program.specs.Formed.{IsWellFormed, entry_of, targets_of}
 
--- how many operands an instruction takes
+-- how many operands an instruction takes, where it is one that may stand
 abbrev pub taken : Code → ℕ
-taken codes.Nop = 0
-taken (codes.Move move) = 0
 taken (codes.Arithmetic operation) = 2
-taken (codes.Branch target) = 0
 taken (codes.BranchTruth when target) = 1
 taken (codes.BranchCompare test signed target) = 2
 taken codes.Return = 1
-taken (codes.Outside name opcode) = 0
+taken _ = 0
 
 -- how many it leaves
 abbrev pub left : Code → ℕ
-left codes.Nop = 0
 left (codes.Move move) = 1
 left (codes.Arithmetic operation) = 1
-left (codes.Branch target) = 0
-left (codes.BranchTruth when target) = 0
-left (codes.BranchCompare test signed target) = 0
-left codes.Return = 0
-left (codes.Outside name opcode) = 0
+left _ = 0
 
 -- a branch or a return, behind which the stack is empty
 abbrev pub is_turn : Code → Bool
-is_turn codes.Nop = false
-is_turn (codes.Move move) = false
-is_turn (codes.Arithmetic operation) = false
 is_turn (codes.Branch target) = true
 is_turn (codes.BranchTruth when target) = true
 is_turn (codes.BranchCompare test signed target) = true
 is_turn codes.Return = true
-is_turn (codes.Outside name opcode) = false
+is_turn _ = false
 
 -- it never goes on to the next instruction
 abbrev pub is_last : Code → Bool
-is_last codes.Nop = false
-is_last (codes.Move move) = false
-is_last (codes.Arithmetic operation) = false
 is_last (codes.Branch target) = true
-is_last (codes.BranchTruth when target) = false
-is_last (codes.BranchCompare test signed target) = false
 is_last codes.Return = true
-is_last (codes.Outside name opcode) = false
+is_last _ = false
 
 abbrev pub is_int32 : Option Place → Bool
 is_int32 None = false
@@ -66,17 +54,24 @@ is_int32 (Some _) = false
 abbrev pub has_value : List Place → Move → Bool
 has_value params (moves.Argument n) = is_int32 (slice_get params n)
 has_value params (moves.Constant wide pattern) = not wide && nat_lt pattern (2 ^ 32)
+has_value params _ = false
 
--- the instruction is run, and names only what is there
+-- `add` or `sub`
+abbrev pub is_sum : Arithmetic → Bool
+is_sum arithmetic.Add = true
+is_sum arithmetic.Sub = true
+is_sum _ = false
+
+-- the instruction is one that may stand, and names only what is there
 abbrev pub is_known : List Place → Code → Bool
-is_known params codes.Nop = true
+is_known params (codes.Nop is_break) = not is_break
 is_known params (codes.Move move) = has_value params move
-is_known params (codes.Arithmetic operation) = true
+is_known params (codes.Arithmetic operation) = is_sum operation
 is_known params (codes.Branch target) = true
 is_known params (codes.BranchTruth when target) = true
 is_known params (codes.BranchCompare test signed target) = true
 is_known params codes.Return = true
-is_known params (codes.Outside name opcode) = false
+is_known params _ = false
 
 -- some branch leads to the offset
 abbrev pub is_target : List Instr → ℕ → Bool
@@ -111,6 +106,11 @@ fault_in (Some method) = fault_from method 0 method.code
 -- the first offset of the entry at which an instruction may not stand
 abbrev pub fault_of : Program → Option ℕ
 fault_of program = fault_in (entry_of program)
+
+-- why a program isn't accepted
+abbrev pub Blames : Program → SimpleFault → Type 0
+Blames program faults.Memory = Unit {0}
+Blames program (faults.At at) = fault_of program ≡ Some at
 
 -- a well-formed program whose entry is simple
 pub record IsSimple (program : Program) : Type 0 where

@@ -1,5 +1,5 @@
 -- What each instruction of an accepted method finds on the stack, and where it leads.
-use Rattle.std.specs.Prelude.{◌≡◌, ℕ, ◌+◌, ◌-◌, ◌<◌, ◌≤◌, ◌^◌, List, [], ◌∷◌, ◌==◌, false, if◌then◌else◌, Option, Some, None, slice_get, IsSome}
+use Rattle.std.specs.Prelude.{◌≡◌, ℕ, ◌+◌, ◌-◌, ◌<◌, ◌≤◌, ◌^◌, List, [], ◌∷◌, ◌==◌, true, false, if◌then◌else◌, Option, Some, None, slice_get, IsSome}
 use Rattle.px_program.specs.declared.instr.Instr.{Instr}
 use Rattle.px_program.specs.declared.instr.Code.{Code}
 use Rattle.px_program.specs.declared.instr.Code.TheVariants as codes
@@ -8,7 +8,7 @@ use Rattle.px_program.specs.declared.instr.Move.TheVariants as moves
 use Rattle.px_program.specs.declared.program.Method.{Method}
 use Rattle.px_program.specs.declared.program.Place.TheVariants.{I4}
 use Rattle.px_program.specs.Formed.{instr_at}
-use Rattle.px_verify.specs.Simple.{after}
+use Rattle.px_verify.specs.Simple.{after, is_sum}
 
 -- the operands before the instruction at an offset, by a walk from a place with so many
 abbrev pub depth_from : ℕ → List Instr → ℕ → Option ℕ
@@ -23,17 +23,18 @@ At method at depth = depth_from 0 method.code at ≡ Some depth
 abbrev pub HasValue : Method → Move → Type 0
 HasValue method (moves.Argument n) = slice_get method.params n ≡ Some I4
 HasValue method (moves.Constant wide pattern) = (wide ≡ false) × (pattern < 2 ^ 32)
+HasValue method _ = ⊥
 
 -- what an instruction with so many operands needs, and where it leads
 abbrev pub Fits : Method → ℕ → ℕ → Code → Type 0
-Fits method next depth codes.Nop = At method next depth
+Fits method next depth (codes.Nop is_break) = At method next depth
 Fits method next depth (codes.Move move) = HasValue method move × At method next (depth + 1)
-Fits method next depth (codes.Arithmetic operation) = (2 ≤ depth) × At method next (depth - 1)
+Fits method next depth (codes.Arithmetic operation) = (is_sum operation ≡ true) × (2 ≤ depth) × At method next (depth - 1)
 Fits method next depth (codes.Branch target) = At method target depth
 Fits method next depth (codes.BranchTruth when target) = (1 ≤ depth) × At method next (depth - 1) × At method target (depth - 1)
 Fits method next depth (codes.BranchCompare test signed target) = (2 ≤ depth) × At method next (depth - 2) × At method target (depth - 2)
 Fits method next depth codes.Return = 1 ≤ depth
-Fits method next depth (codes.Outside name opcode) = Unit {0}
+Fits method next depth _ = ⊥
 
 -- every instruction that a run can come to finds what it needs
 pub record IsTyped (method : Method) : Type 0 where

@@ -1,11 +1,13 @@
 //! The check that a run of a program never misses an operand.
 #![tactic(auto)]
 
+mod offsets;
 mod rows;
 mod simple_methods;
 #[cfg(test)]
 mod tests;
 mod verified;
 
+pub use offsets::instr_at;
 pub use simple_methods::{SimpleFault, simple};
 pub use verified::Verified;

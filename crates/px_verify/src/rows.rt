@@ -3,31 +3,30 @@ ghost use Rattle.std.specs.Prelude.{◌≡◌, ◌≤◌, ◌==◌};
 ghost use Rattle.std.specs.List.{list_any};
 ghost use Rattle.std.specs.Option.{option_copied};
 ghost use Rattle.px_program.specs.Formed.{targets_of};
-ghost use Rattle.px_verify.specs.Simple.{has_value, is_int32, is_known, is_last, is_turn, left, taken};
+ghost use Rattle.px_verify.specs.Simple.{has_value, is_int32, is_known, is_last, is_sum, is_turn, left, taken};
 
-use px_program::{Code, Move, Place};
+use px_program::{Arithmetic, Code, Move, Place};
 
-// How many operands an instruction takes.
+// How many operands an instruction takes, where it is one that may stand.
 pub(crate) fn taken(code: &Code) -> usize
     ensures is { result ≡ taken code.now }
     ensures small { result ≤ 2 }
 {
     match code {
-        Code::Nop | Code::Move(_) | Code::Branch(_) | Code::Outside(..) => 0,
         Code::BranchTruth { .. } | Code::Return => 1,
         Code::Arithmetic(_) | Code::BranchCompare { .. } => 2,
+        _ => 0,
     }
 }
 
-// How many operands it leaves.
+// How many it leaves.
 pub(crate) fn left(code: &Code) -> usize
     ensures is { result ≡ left code.now }
     ensures small { result ≤ 1 }
 {
     match code {
         Code::Move(_) | Code::Arithmetic(_) => 1,
-        Code::Branch(_) | Code::BranchTruth { .. } | Code::BranchCompare { .. } => 0,
-        Code::Nop | Code::Return | Code::Outside(..) => 0,
+        _ => 0,
     }
 }
 
@@ -38,7 +37,7 @@ pub(crate) fn is_turn(code: &Code) -> bool
     match code {
         Code::Branch(_) | Code::BranchTruth { .. } | Code::BranchCompare { .. } => true,
         Code::Return => true,
-        Code::Nop | Code::Move(_) | Code::Arithmetic(_) | Code::Outside(..) => false,
+        _ => false,
     }
 }
 
@@ -46,11 +45,7 @@ pub(crate) fn is_turn(code: &Code) -> bool
 pub(crate) fn is_last(code: &Code) -> bool
     ensures { result ≡ is_last code.now }
 {
-    match code {
-        Code::Branch(_) | Code::Return => true,
-        Code::BranchTruth { .. } | Code::BranchCompare { .. } => false,
-        Code::Nop | Code::Move(_) | Code::Arithmetic(_) | Code::Outside(..) => false,
-    }
+    matches!(code, Code::Branch(_) | Code::Return)
 }
 
 // Whether there is a place, and it is that of an int32.
@@ -61,35 +56,33 @@ fn is_int32(place: Option<&Place>) -> bool
 }
 
 // Whether the value is that of an int32 parameter, or an int32 constant.
-fn has_value(params: &[Place], value: Move) -> bool
-    ensures { result ≡ has_value params.now value }
+fn has_value(params: &[Place], value: &Move) -> bool
+    ensures { result ≡ has_value params.now value.now }
 {
     match value {
-        Move::Argument(n) => is_int32(params.get(n as usize)),
-        Move::Constant { wide, pattern } => !wide && pattern < 1 << 32,
+        Move::Argument(n) => is_int32(params.get(*n as usize)),
+        Move::Constant { wide, pattern } => !*wide && *pattern < 1 << 32,
+        _ => false,
     }
 }
 
-// Whether the instruction is run, and names only what is there.
+// Whether it is `add` or `sub`.
+fn is_sum(operation: Arithmetic) -> bool
+    ensures { result ≡ is_sum operation }
+{
+    matches!(operation, Arithmetic::Add | Arithmetic::Sub)
+}
+
+// Whether the instruction is one that may stand, and names only what is there.
 pub(crate) fn is_known(params: &[Place], code: &Code) -> bool
     ensures { result ≡ is_known params.now code.now }
 {
     match code {
-        Code::Move(value) => has_value(params, *value),
-        Code::Branch(_) | Code::BranchTruth { .. } | Code::BranchCompare { .. } => true,
-        Code::Nop | Code::Arithmetic(_) | Code::Return => true,
-        Code::Outside(..) => false,
-    }
-}
-
-// Whether it is a branch that leads to the offset.
-pub(crate) fn leads_to(code: &Code, at: u32) -> bool
-    ensures { result ≡ list_any (λ target. target == at) (targets_of code.now) }
-{
-    match code {
-        Code::Branch(target) => *target == at,
-        Code::BranchTruth { target, .. } => *target == at,
-        Code::BranchCompare { target, .. } => *target == at,
-        Code::Nop | Code::Move(_) | Code::Arithmetic(_) | Code::Return | Code::Outside(..) => false,
+        Code::Nop { is_break } => !*is_break,
+        Code::Move(value) => has_value(params, value),
+        Code::Arithmetic(operation) => is_sum(*operation),
+        Code::Branch(_) | Code::BranchTruth { .. } => true,
+        Code::BranchCompare { .. } | Code::Return => true,
+        _ => false,
     }
 }

@@ -1,6 +1,6 @@
 // Programs that were accepted.
 ghost use Rattle.std.specs.Prelude.{◌≡◌, IsSome, Some};
-ghost use Rattle.px_program.specs.Formed.{entry_of};
+ghost use Rattle.px_program.specs.Formed.{Follow, entry_of};
 ghost use Rattle.px_verify.specs.Simple.{IsSimple};
 ghost use Rattle.px_verify.specs.Typing.{IsTyped};
 
@@ -36,6 +36,7 @@ impl Verified {
     /// The method that a run begins with.
     pub fn entry(&self) -> &Method
         ensures entry { entry_of self.now ≡ Some result.now }
+        ensures follow { Follow 0 result.now.code }
         ensures typed { IsTyped result.now }
     {
         entry_of(&self.program)

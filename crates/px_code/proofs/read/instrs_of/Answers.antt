@@ -17,10 +17,10 @@ returns-in_err-instr-clause-gives c =
 
 pub loop-at-preserved : goal.loop-at-preserved
 loop-at-preserved c = record {
-  inside = c.in_ok-instr.ensures.next.2;
+  inside = c.in_ok-instr.ensures.stands.within;
   short = grind (arith, elements);
   front = rw c.in_ok-push.ensures.items
-      (sym (one_more c.loop-at.instrs.items c.args.base c.args.code.now c.loop-at.at c.in_ok-instr.instr c.loop-at-test.true c.in_ok-instr.ensures.next.1 c.in_ok-instr.ensures.gives)
+      (sym (one_more c.loop-at.instrs.items c.args.base c.args.code.now c.loop-at.at c.in_ok-instr.instr c.loop-at-test.true c.in_ok-instr.ensures.stands.later c.in_ok-instr.ensures.gives)
       ∙ c.loop-at.invariant.front);
 }
 

@@ -1,9 +1,10 @@
-use Rattle.std.proofs.Common.{◌≡◌, true, false, Err, map, sym, ap, ◌∙◌, subst, inl, inr}
+use Rattle.std.proofs.Common.{◌≡◌, ◌&&◌, true, false, [], Err, map, sym, ap, ◌∙◌, subst, inl, inr}
 use Rattle.std.proofs.lemmas.Result.{err_from_is_err_and}
+use Rattle.px_program.specs.Alone.{alone}
 use Rattle.px_program.specs.declared.program.Place.TheVariants.{I4}
-use Rattle.px_link.specs.Link.{Blames, IsTheMethod, Reads, is_linked_form, places_of}
-use Rattle.px_link.specs.Raw.{method_of, program_with}
-use Rattle.px_link.proofs.Linking.{blamed, later, later_integers, no_body, passed_on, reads, reads_takes}
+use Rattle.px_link.specs.Link.{Blames, IsTheMethod, Reads, is_linked_body, is_linked_form, places_of}
+use Rattle.px_link.specs.Raw.{method_of}
+use Rattle.px_link.proofs.Linking.{blamed, int32s_fit, later, later_integers, no_body, passed_on, reads, reads_takes}
 use Rattle.px_link.proofs.linked.link.Goals as goal
 use Rattle.px_link.proofs.linked.link.Goals.{then-method-eq0-via-then-method-eq0, then-method-eq0-via-else-method-eq0+then-not-method}
 
@@ -49,26 +50,29 @@ returns-in-Err-clause-later c =
     (subst (λ f. Blames v c.args.image.now name f) (sym c.bad_body.ensures)
     (blamed v c.args.image.now name m c.in-Err.fault the c.if-method-eq0.false c.if-not-method.false c.in-Err.ensures.exact))
 
-pub returns-then-not-is_linked_form-clause-fault : goal.returns-then-not-is_linked_form-clause-fault
-returns-then-not-is_linked_form-clause-fault c =
+pub returns-then-not-is_linked-clause-fault : goal.returns-then-not-is_linked-clause-fault
+returns-then-not-is_linked-clause-fault c =
     let v = c.args.meta.now in
     let name = c.args.name.now in
     let m = c.in_ok-method.method.now in
     let the : IsTheMethod v name m = subst (λ n. IsTheMethod v n m) c.as_bytes-name.ensures.value c.in_ok-method.ensures.found in
-    let other : is_linked_form m.sig ≡ false = sym c.is_linked_form.ensures ∙ c.if-not-is_linked_form.true in
+    let other : (is_linked_form m.sig && is_linked_body c.in-Ok.body) ≡ false = sym c.is_linked.ensures ∙ c.if-not-is_linked.true in
     later v c.args.image.now name m c.in-Ok.body c.in_ok-places_of.field-0 the c.if-method-eq0.false c.if-not-method.false c.in-Ok.ensures.exact other
     (c.in_ok-places_of.ensures ∙ ap places_of c.as_slice-params.ensures)
 
-pub returns-then-not-is_linked_form-clause-later : goal.returns-then-not-is_linked_form-clause-later
-returns-then-not-is_linked_form-clause-later c =
+pub returns-then-not-is_linked-clause-later : goal.returns-then-not-is_linked-clause-later
+returns-then-not-is_linked-clause-later c =
     let v = c.args.meta.now in
     let name = c.args.name.now in
     let m = c.in_ok-method.method.now in
     let the : IsTheMethod v name m = subst (λ n. IsTheMethod v n m) c.as_bytes-name.ensures.value c.in_ok-method.ensures.found in
-    let other : is_linked_form m.sig ≡ false = sym c.is_linked_form.ensures ∙ c.if-not-is_linked_form.true in
+    let other : (is_linked_form m.sig && is_linked_body c.in-Ok.body) ≡ false = sym c.is_linked.ensures ∙ c.if-not-is_linked.true in
     λ params. later_integers v c.args.image.now name _ params
     (later v c.args.image.now name m c.in-Ok.body c.in_ok-places_of.field-0 the c.if-method-eq0.false c.if-not-method.false c.in-Ok.ensures.exact other
     (c.in_ok-places_of.ensures ∙ ap places_of c.as_slice-params.ensures))
+
+pub program_with-requires-clause-params : goal.program_with-requires-clause-params
+program_with-requires-clause-params c = int32s_fit c.as_slice-params.result.now c.deref.result.now (c.deref.ensures.value ∙ c.in_ok-params.ensures)
 
 pub returns-clause-reads : goal.returns-clause-reads
 returns-clause-reads c =
@@ -76,10 +80,10 @@ returns-clause-reads c =
     let name = c.args.name.now in
     let m = c.in_ok-method.method.now in
     let the : IsTheMethod v name m = subst (λ n. IsTheMethod v n m) c.as_bytes-name.ensures.value c.in_ok-method.ensures.found in
-    let form : is_linked_form m.sig ≡ true = sym c.is_linked_form.ensures ∙ c.if-not-is_linked_form.false in
+    let form : (is_linked_form m.sig && is_linked_body c.in-Ok.body) ≡ true = sym c.is_linked.ensures ∙ c.if-not-is_linked.false in
     let params : c.deref.result.now ≡ map (λ t. I4) m.sig.params = c.deref.ensures.value ∙ c.in_ok-params.ensures ∙ ap (λ types. map (λ t. I4) types) c.as_slice-params.ensures in
-    let same : c.in_ok-program_with.field-0 ≡ program_with (method_of name c.in-Ok.body c.deref.result.now)
-    = c.in_ok-program_with.ensures.program ∙ ap (λ n. program_with (method_of n c.in-Ok.body c.deref.result.now)) c.as_bytes-name.ensures.value in
+    let same : c.in_ok-program_with.field-0 ≡ alone [] (method_of name c.in-Ok.body c.deref.result.now)
+    = c.in_ok-program_with.ensures.program ∙ ap (λ n. alone [] (method_of n c.in-Ok.body c.deref.result.now)) c.as_bytes-name.ensures.value in
     subst (λ p. Reads v c.args.image.now name p) (sym same)
     (reads v c.args.image.now name m c.in-Ok.body c.deref.result.now the c.if-method-eq0.false c.if-not-method.false c.in-Ok.ensures.exact form params)
 
@@ -89,10 +93,10 @@ returns-clause-params c =
     let name = c.args.name.now in
     let m = c.in_ok-method.method.now in
     let the : IsTheMethod v name m = subst (λ n. IsTheMethod v n m) c.as_bytes-name.ensures.value c.in_ok-method.ensures.found in
-    let form : is_linked_form m.sig ≡ true = sym c.is_linked_form.ensures ∙ c.if-not-is_linked_form.false in
+    let form : (is_linked_form m.sig && is_linked_body c.in-Ok.body) ≡ true = sym c.is_linked.ensures ∙ c.if-not-is_linked.false in
     let params : c.deref.result.now ≡ map (λ t. I4) m.sig.params = c.deref.ensures.value ∙ c.in_ok-params.ensures ∙ ap (λ types. map (λ t. I4) types) c.as_slice-params.ensures in
-    let same : c.in_ok-program_with.field-0 ≡ program_with (method_of name c.in-Ok.body c.deref.result.now)
-    = c.in_ok-program_with.ensures.program ∙ ap (λ n. program_with (method_of n c.in-Ok.body c.deref.result.now)) c.as_bytes-name.ensures.value in
+    let same : c.in_ok-program_with.field-0 ≡ alone [] (method_of name c.in-Ok.body c.deref.result.now)
+    = c.in_ok-program_with.ensures.program ∙ ap (λ n. alone [] (method_of n c.in-Ok.body c.deref.result.now)) c.as_bytes-name.ensures.value in
     reads_takes v c.args.image.now name c.in_ok-program_with.field-0
     (subst (λ p. Reads v c.args.image.now name p) (sym same)
     (reads v c.args.image.now name m c.in-Ok.body c.deref.result.now the c.if-method-eq0.false c.if-not-method.false c.in-Ok.ensures.exact form params))

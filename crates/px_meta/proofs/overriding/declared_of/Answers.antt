@@ -15,14 +15,14 @@ loop-n-preserved c =
     let v = c.args.tables.now in
     let n = c.loop-n.n - 1 in
     let items = c.loop-n.declared.items in
-    let news = c.set_outer.new.outers in
+    let news = c.set_row.new.kept in
     let slice = c.deref_mut.result.now in
     let same : n + 1 ≡ c.loop-n.n = omega arith in
-    let size = c.set_outer.auto.outers ∙ ap length c.deref_mut.ensures.value in
+    let size = c.set_row.auto.kept ∙ ap length c.deref_mut.ensures.value in
     subst (λ xs. AreDeclared v n xs) (sym (written news items c.loop-n.declared.len size (omega arith)))
     (put_declared v n c.in-Some.body c.in-Some.declaration slice news
     (subst (λ xs. AreDeclared v (n + 1) xs) (sym c.deref_mut.ensures.value) (subst (λ k. AreDeclared v k items) (sym same) c.loop-n.invariant))
-    c.in-Some.ensures c.set_outer.auto.outers c.set_outer.ensures.named c.set_outer.ensures.others)
+    c.in-Some.ensures c.set_row.auto.kept c.set_row.ensures.named c.set_row.ensures.others)
 
 pub returns : goal.returns
 returns c = all_declared c.args.tables.now c.loop-n.n c.loop-n.declared.items (omega arith) c.loop-n.invariant

@@ -1,0 +1,40 @@
+-- The program of one method is well formed.
+use Rattle.std.proofs.Common.{◌≡◌, ℕ, List, [], ◌∷◌, Some, refl, sym, subst, arith, rules, map}
+use Rattle.std.specs.Prelude.{slice_get}
+use Rattle.std.specs.List.{AllByRecursion}
+use Rattle.px_program.specs.Alone.{alone, array_of}
+use Rattle.px_program.specs.Formed.{CanBegin, IsFormedIn, IsInteger, IsWellFormed, Overrides}
+use Rattle.px_program.specs.Library.{library_types}
+use Rattle.px_program.specs.declared.program.Method.{Method}
+use Rattle.px_program.specs.declared.program.Place.{Place}
+use Rattle.px_program.specs.declared.program.Program.{Program}
+use Rattle.px_program.specs.declared.program.TypeInfo.{TypeInfo}
+use Rattle.px_program.proofs.Types.{AreTypes-types_with, each-append, each_at}
+
+abbrev pub OverridesNothing : TypeInfo → Type 0
+OverridesNothing type = type.overrides ≡ []
+
+pub library_overrides_nothing : AllByRecursion OverridesNothing library_types
+library_overrides_nothing = search rules
+
+arrays_override_nothing : (elements : List Place) → AllByRecursion OverridesNothing (map array_of elements)
+arrays_override_nothing [] = tt
+arrays_override_nothing (element ∷ elements) = (refl, arrays_override_nothing elements)
+
+-- where no type overrides anything, all overrides are as they should be
+pub nothing_overridden : (program : Program) → AllByRecursion OverridesNothing program.types → (type : ℕ) (info : TypeInfo) → slice_get program.types type ≡ Some info → AllByRecursion (Overrides program type) info.overrides
+nothing_overridden program nothing type info at =
+    subst (λ pairs. AllByRecursion (Overrides program type) pairs) (sym (each_at OverridesNothing program.types nothing type info at)) tt
+
+pub alone_formed : (elements : List Place) (method : Method) → AllByRecursion IsInteger elements → CanBegin (alone elements method) method → IsFormedIn (alone elements method) method → IsWellFormed (alone elements method)
+alone_formed elements method integers begins formed =
+    record {
+      types = AreTypes-types_with elements integers;
+      few_methods = omega arith;
+      entry = record { method = method; at = refl; is = begins };
+      methods = (formed, tt);
+      overrides = nothing_overridden (alone elements method) (each-append OverridesNothing library_types (map array_of elements) library_overrides_nothing (arrays_override_nothing elements));
+    }
+
+pub formed_where_alone : (elements : List Place) (method : Method) (program : Program) → AllByRecursion IsInteger elements → CanBegin (alone elements method) method → IsFormedIn (alone elements method) method → program ≡ alone elements method → IsWellFormed program
+formed_where_alone elements method program integers begins formed is = subst IsWellFormed (sym is) (alone_formed elements method integers begins formed)
