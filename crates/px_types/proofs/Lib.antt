@@ -1,0 +1,14 @@
+pub mod Arrays
+pub mod Closed
+pub mod Derived
+pub mod Ends
+pub mod Formed
+pub mod Keyed
+pub mod Known
+pub mod Listed
+pub mod Names
+pub mod Nesting
+pub mod Places
+pub mod Tables
+pub mod There
+pub mod Visiting

@@ -1,0 +1,7 @@
+pub mod Hashes
+pub mod Infos
+pub mod Keys
+pub mod Making
+pub mod Names
+pub mod Numbers
+pub mod Parts
