@@ -1,2 +1,3 @@
+pub mod Exploring
 mod Forms
 mod Telling

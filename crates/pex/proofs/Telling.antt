@@ -1,5 +1,5 @@
 -- Why the answers come, and what is said by them.
-use Rattle.std.proofs.Common.{◌≡◌, ℕ, List, [], ◌∷◌, subst, Option, Some, None, Ok, refl, sym, ap, ◌∙◌, inl, inr}
+use Rattle.std.proofs.Common.{◌≡◌, ℕ, List, [], ◌∷◌, subst, Option, Some, None, Ok, true, refl, sym, ap, ◌∙◌, inl, inr}
 use Rattle.std.specs.Prelude.{Vec}
 use Rattle.std.specs.declared.alloc.Global.{Global}
 use Rattle.std.specs.List.{AllByRecursion}
@@ -25,7 +25,8 @@ use Rattle.pex.specs.declared.answer.Refusal.{Refusal}
 use Rattle.pex.specs.declared.answer.Refusal.TheVariants as refusals
 use Rattle.pex.specs.declared.words.Target.{Target}
 use Rattle.pex.specs.declared.words.Target.TheVariants as targets
-use Rattle.pex.specs.Answers.{Explains, ExplainsMethod, ExplainsNamed, ExplainsRaw, Finds, IsAssembly, RefusesMethod, RefusesNamed, RefusesProgram, RefusesRaw, Tells, no_arrays}
+use Rattle.pex.proofs.Exploring.{misread}
+use Rattle.pex.specs.Answers.{Explains, ExplainsMethod, ExplainsNamed, ExplainsRaw, Finds, IsAssembly, RefusesMethod, RefusesNamed, RefusesProgram, RefusesRaw, Tells, is_explored, no_arrays}
 use Rattle.pex.specs.Says.{Fetching, IsAbsent, IsContent, IsLong, IsTooLong, IsWritable, Says, answer_text, input_of, status_of}
 use Rattle.pex.specs.Words.{AsksFor}
 
@@ -40,6 +41,8 @@ refuses_raw bytes places text body program (refusals.Meta kind token) is none sa
 refuses_raw bytes places text body program refusals.NoMethod is none same h = absurd h
 refuses_raw bytes places text body program refusals.Ambiguous is none same h = absurd h
 refuses_raw bytes places text body program refusals.NoBody is none same h = absurd h
+refuses_raw bytes places text body program (refusals.BadParameter number) is none same h = absurd h
+refuses_raw bytes places text body program refusals.NoMaker is none same h = absurd h
 refuses_raw bytes places text body program (refusals.Body kind at method) is none same h = absurd h
 refuses_raw bytes places text body program refusals.RawLocals is none same h = absurd h
 
@@ -49,25 +52,28 @@ explains_raw bytes places text body program (answers.Found linked f) is none sam
 explains_raw bytes places text body program (answers.Refused why) is none same h = refuses_raw bytes places text body program why is none same h
 explains_raw bytes places text body program answers.Memory is none same h = tt
 
--- what a linked program gives is what the method of its name gives
+-- what a program of the form that is explored gives is what the method of its name gives
 refuses_named : (v : View) (image : pe.View) (name text : List ℕ) (program : Program) (why : Refusal)
-    → Reads v image name program → RefusesProgram program (params_of program) text why → RefusesNamed v image name text why
-refuses_named v image name text program (refusals.Domain at) r h = (params_of program, inl (program, r, refl), h)
-refuses_named v image name text program refusals.Unsupported r h = inr (program, r, h)
-refuses_named v image name text program (refusals.Pe fault) r h = absurd h
-refuses_named v image name text program (refusals.Tables fault) r h = absurd h
-refuses_named v image name text program (refusals.Meta kind token) r h = absurd h
-refuses_named v image name text program refusals.NoMethod r h = absurd h
-refuses_named v image name text program refusals.Ambiguous r h = absurd h
-refuses_named v image name text program refusals.NoBody r h = absurd h
-refuses_named v image name text program (refusals.Body kind at method) r h = absurd h
-refuses_named v image name text program refusals.RawLocals r h = absurd h
+    → Reads v image name program → is_explored program ≡ true → RefusesProgram program (params_of program) text why → RefusesNamed v image name text why
+refuses_named v image name text program (refusals.Domain at) r form h = (program, r, misread program text at form h)
+refuses_named v image name text program refusals.Unsupported r form h = (program, r, inr (form, h))
+refuses_named v image name text program (refusals.Pe fault) r form h = absurd h
+refuses_named v image name text program (refusals.Tables fault) r form h = absurd h
+refuses_named v image name text program (refusals.Meta kind token) r form h = absurd h
+refuses_named v image name text program refusals.NoMethod r form h = absurd h
+refuses_named v image name text program refusals.Ambiguous r form h = absurd h
+refuses_named v image name text program refusals.NoBody r form h = absurd h
+refuses_named v image name text program (refusals.BadParameter number) r form h = absurd h
+refuses_named v image name text program refusals.NoMaker r form h = absurd h
+refuses_named v image name text program (refusals.Body kind at method) r form h = absurd h
+refuses_named v image name text program refusals.RawLocals r form h = absurd h
 
 pub explains_named : (v : View) (image : pe.View) (name text : List ℕ) (program : Program) (answer : Answer)
-    → Reads v image name program → Tells program (params_of program) text answer → ExplainsNamed v image name text answer
-explains_named v image name text program (answers.Found linked f) r h = (let P : Program → Type 0 = λ p. Reads v image name p × Finds p (params_of p) text f in subst P (sym h.0) (r, h.1))
-explains_named v image name text program (answers.Refused why) r h = refuses_named v image name text program why r h
-explains_named v image name text program answers.Memory r h = tt
+    → Reads v image name program → is_explored program ≡ true → Tells program (params_of program) text answer → ExplainsNamed v image name text answer
+explains_named v image name text program (answers.Found linked f) r form h =
+    (let P : Program → Type 0 = λ p. Reads v image name p × (is_explored p ≡ true) × Finds p (params_of p) text f in subst P (sym h.0) (r, form, h.1))
+explains_named v image name text program (answers.Refused why) r form h = refuses_named v image name text program why r form h
+explains_named v image name text program answers.Memory r form h = tt
 
 -- what a method gives is what the bytes of its assembly give
 refuses_method : (bytes name text : List ℕ) (image : pe.View) (v : View) (why : Refusal)
@@ -78,6 +84,8 @@ refuses_method bytes name text image v (refusals.Meta kind token) a h = absurd h
 refuses_method bytes name text image v refusals.NoMethod a h = (image, v, a, h)
 refuses_method bytes name text image v refusals.Ambiguous a h = (image, v, a, h)
 refuses_method bytes name text image v refusals.NoBody a h = (image, v, a, h)
+refuses_method bytes name text image v (refusals.BadParameter number) a h = (image, v, a, h)
+refuses_method bytes name text image v refusals.NoMaker a h = (image, v, a, h)
 refuses_method bytes name text image v (refusals.Body kind at method) a h = (image, v, a, h)
 refuses_method bytes name text image v (refusals.Domain at) a h = (image, v, a, h)
 refuses_method bytes name text image v refusals.Unsupported a h = (image, v, a, h)
@@ -96,7 +104,7 @@ within program parts bounds (r ∷ records) h = (h.0.within, within program part
 
 pub writable : (bytes : List ℕ) (target : Target) (text : List ℕ) (answer : Answer) → Explains bytes target text answer → IsWritable answer
 writable bytes (targets.Raw params places) text (answers.Found program f) h = within program f.domain f.bounds f.records h.1.sound.stand
-writable bytes (targets.Method name) text (answers.Found program f) h = within program f.domain f.bounds f.records h.3.1.sound.stand
+writable bytes (targets.Method name) text (answers.Found program f) h = within program f.domain f.bounds f.records h.3.2.sound.stand
 writable bytes target text (answers.Refused why) h = tt
 writable bytes target text answers.Memory h = tt
 

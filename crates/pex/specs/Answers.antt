@@ -1,5 +1,6 @@
 -- What the bytes of a file and the text of a domain give, before anything is written.
-use Rattle.std.specs.Prelude.{◌≡◌, ◌≢◌, ℕ, ◌<◌, ◌≤◌, List, length, take, drop, Option, Some, None, Ok, Err, ◌⊎◌, map, false, Bool}
+use Rattle.std.specs.Prelude.{◌≡◌, ◌≢◌, ℕ, ◌<◌, ◌≤◌, List, length, take, drop, Option, Some, None, Ok, Err, ◌⊎◌, map, true, false, Bool, ◌&&◌, nat_le}
+use Rattle.std.specs.List.{list_all}
 use Rattle.px_code.specs.declared.body.Body.{Body}
 use Rattle.px_code.specs.declared.body.BodyFault.TheVariants as body_faults
 use Rattle.px_code.specs.Body.{body_of}
@@ -7,12 +8,15 @@ use Rattle.px_domain.specs.declared.domain.Part.{Part}
 use Rattle.px_domain.specs.Domain.{params_of, size_of}
 use Rattle.px_domain.specs.Grammar.{domain_of}
 use Rattle.px_link.specs.declared.fault.LinkFault.TheVariants as faults
-use Rattle.px_link.specs.Link.{Blames, Reads}
+use Rattle.px_link.specs.Link.{Blames, Reads, arguments_of}
 use Rattle.px_link.specs.Raw.{ReadsRaw}
 use Rattle.px_meta.specs.Faults.{IsFaultless, IsFirstFault}
 use Rattle.px_pe.specs.Image as pe
 use Rattle.px_pe.specs.Image.{image_of}
+use Rattle.px_program.specs.Formed.{entry_of}
+use Rattle.px_program.specs.declared.program.Method.{Method}
 use Rattle.px_program.specs.declared.program.Place.{Place}
+use Rattle.px_program.specs.declared.program.Place.TheVariants as places
 use Rattle.px_program.specs.declared.program.Program.{Program}
 use Rattle.px_program.specs.declared.record.Bounds.{Bounds}
 use Rattle.px_program.specs.declared.record.Limits.{Limits}
@@ -76,37 +80,59 @@ ExplainsRaw bytes places text (answers.Found program f) = ReadsRaw bytes places 
 ExplainsRaw bytes places text (answers.Refused why) = RefusesRaw bytes places text why
 ExplainsRaw bytes places text answers.Memory = Unit {0}
 
--- The places by which the domain's text is read: those of the program's parameters, and those of a method of another form, where they are at
--- most sixteen integers.
-abbrev pub HasPlaces : View → pe.View → List ℕ → List Place → Type 0
-HasPlaces v image name places =
-    ((program : Program) × Reads v image name program × (places ≡ params_of program))
-    ⊎ (Blames v image name (faults.Later (Some places)) × (length places ≤ 16))
+abbrev pub is_int32 : Place → Bool
+is_int32 places.I4 = true
+is_int32 _ = false
 
--- The domain's text is in form for these parameters. Where they aren't at most sixteen integers, it isn't looked at.
-abbrev pub IsInForm : Option (List Place) → List ℕ → Type 0
-IsInForm None text = Unit {0}
-IsInForm (Some places) text = (16 < length places) ⊎ ((parts : List Part) × (domain_of places text ≡ Ok parts))
+abbrev pub returns_int32 : Option Place → Bool
+returns_int32 None = false
+returns_int32 (Some place) = is_int32 place
+
+abbrev pub is_explored_method : Option Method → Bool
+is_explored_method None = false
+is_explored_method (Some method) = method.is_static && list_all is_int32 method.params && nat_le (length method.params) 4 && returns_int32 method.ret
+
+-- the entry is a static method of at most four int32 that returns one: the form that is explored so far
+abbrev pub is_explored : Program → Bool
+is_explored program = is_explored_method (entry_of program)
+
+abbrev pub is_integer : Place → Bool
+is_integer (places.Ref type) = false
+is_integer _ = true
+
+-- the text of a domain is looked at where all that a run is given are integers
+abbrev pub is_read : Program → Bool
+is_read program = list_all is_integer (arguments_of program)
+
+-- the program's entry is of another form, and the text, where it is looked at, is in form
+pub record IsOtherForm (program : Program) (text : List ℕ) : Type 0 where
+  pub form : is_explored program ≡ false
+  pub in_form : is_read program ≡ true → (parts : List Part) × (domain_of (arguments_of program) text ≡ Ok parts)
+
+-- the text of the domain has its first fault there
+pub record IsMisread (program : Program) (text : List ℕ) (at : ℕ) : Type 0 where
+  pub read : is_read program ≡ true
+  pub fault : domain_of (arguments_of program) text ≡ Err at
 
 -- the method, its program or the domain is of a form that isn't explored yet
-abbrev pub IsUnsupported : View → pe.View → List ℕ → List ℕ → Type 0
-IsUnsupported v image name text =
-    ((params : Option (List Place)) × Blames v image name (faults.Later params) × IsInForm params text)
-    ⊎ ((program : Program) × Reads v image name program × IsBeyond program (params_of program) text)
+abbrev pub IsUnsupported : Program → List ℕ → Type 0
+IsUnsupported program text = IsOtherForm program text ⊎ ((is_explored program ≡ true) × IsBeyond program (params_of program) text)
 
 -- why a method of resolved metadata is refused, by its name: the first of these that fits
 abbrev pub RefusesNamed : View → pe.View → List ℕ → List ℕ → Refusal → Type 0
 RefusesNamed v image name text refusals.NoMethod = Blames v image name faults.NoMethod
 RefusesNamed v image name text refusals.Ambiguous = Blames v image name faults.Ambiguous
 RefusesNamed v image name text refusals.NoBody = Blames v image name faults.NoBody
+RefusesNamed v image name text (refusals.BadParameter number) = Blames v image name (faults.BadParameter number)
+RefusesNamed v image name text refusals.NoMaker = Blames v image name faults.NoMaker
 RefusesNamed v image name text (refusals.Body kind at method) = Blames v image name (faults.BadBody (body_faults.Bad kind at) method)
-RefusesNamed v image name text (refusals.Domain at) = (places : List Place) × HasPlaces v image name places × (domain_of places text ≡ Err at)
-RefusesNamed v image name text refusals.Unsupported = IsUnsupported v image name text
+RefusesNamed v image name text (refusals.Domain at) = (program : Program) × Reads v image name program × IsMisread program text at
+RefusesNamed v image name text refusals.Unsupported = (program : Program) × Reads v image name program × IsUnsupported program text
 RefusesNamed v image name text _ = ⊥
 
 -- why an answer comes for a method of resolved metadata, by its name
 abbrev pub ExplainsNamed : View → pe.View → List ℕ → List ℕ → Answer → Type 0
-ExplainsNamed v image name text (answers.Found program f) = Reads v image name program × Finds program (params_of program) text f
+ExplainsNamed v image name text (answers.Found program f) = Reads v image name program × (is_explored program ≡ true) × Finds program (params_of program) text f
 ExplainsNamed v image name text (answers.Refused why) = RefusesNamed v image name text why
 ExplainsNamed v image name text answers.Memory = Unit {0}
 

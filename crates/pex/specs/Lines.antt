@@ -63,6 +63,12 @@ ambiguous_line = codes "refused method Ambiguous\n" ++ []
 unfoldable pub no_body_line : List ℕ
 no_body_line = codes "refused method NoBody\n" ++ []
 
+unfoldable pub bad_parameter_line : ℕ → List ℕ
+bad_parameter_line number = codes "refused method BadParameter " ++ (decimal number ++ (codes "\n" ++ []))
+
+unfoldable pub no_maker_line : List ℕ
+no_maker_line = codes "refused method NoMaker\n" ++ []
+
 abbrev pub body_kind_text : BodyKind → List ℕ
 body_kind_text body_kinds.BadHeader = codes "BadHeader"
 body_kind_text body_kinds.Cut = codes "Cut"
@@ -90,6 +96,8 @@ refusal_line (refusals.Meta kind token) = meta_line kind token
 refusal_line refusals.NoMethod = no_method_line
 refusal_line refusals.Ambiguous = ambiguous_line
 refusal_line refusals.NoBody = no_body_line
+refusal_line (refusals.BadParameter number) = bad_parameter_line number
+refusal_line refusals.NoMaker = no_maker_line
 refusal_line (refusals.Body kind at method) = body_line kind at method
 refusal_line refusals.RawLocals = raw_locals_line
 refusal_line (refusals.Domain at) = domain_line at

@@ -37,6 +37,10 @@ pub enum Refusal {
     Ambiguous,
     /// The method has no body that can be read.
     NoBody,
+    /// The first parameter of the method, counted from 0, that can't be given.
+    BadParameter(u32),
+    /// The method needs an object, and its class has no constructor that makes one of nothing.
+    NoMaker,
     /// A body's first fault, its place, and the number of the body's method.
     Body(BodyKind, u32, u32),
     /// The raw body names a signature of locals, which only an assembly has.

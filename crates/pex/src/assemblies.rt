@@ -199,19 +199,20 @@ const REFUSED: [Case; 22] = [
         "(0..9)",
         "refused unsupported\n",
     ),
-    // an instance method, and one of an int64
+    // one of a string, and an instance method of a class without a constructor
     (
-        &[(0x31C, &[6])],
+        &[(0x2BD, &[0x0E])],
         "Demo.T::F",
-        "(0..9)",
-        "refused unsupported\n",
+        "x",
+        "refused method BadParameter 0\n",
     ),
     (
         &[(0x31C, &[6])],
         "Demo.T::F",
-        "(5..4)",
-        "refused domain at 1\n",
+        "x",
+        "refused method NoMaker\n",
     ),
+    // of an int64
     (
         &[(0x31C, &[11])],
         "Demo.T::F",

@@ -4,6 +4,7 @@
 mod answer;
 #[cfg(test)]
 mod assemblies;
+mod form;
 mod method;
 mod put;
 mod raw;

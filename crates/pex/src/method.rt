@@ -1,25 +1,22 @@
 // What the bytes of an assembly give, with a method by its name.
-ghost use Rattle.std.specs.Prelude.{◌≡◌, ◌≢◌, ◌<◌, ◌≤◌, ◌^◌, ℕ, List, Option, Some, Ok, length, IfOk};
-ghost use Rattle.std.specs.List.{AllByRecursion};
+ghost use Rattle.std.specs.Prelude.{◌≡◌, ◌<◌, ◌≤◌, ◌^◌, ℕ, List, Ok, true, length};
 ghost use Rattle.px_code.specs.declared.body.BodyFault.TheVariants as body_faults;
-ghost use Rattle.px_domain.specs.Domain.{params_of};
-ghost use Rattle.px_program.specs.Formed.{IsInteger};
-ghost use Rattle.px_link.specs.Link.{Blames};
+ghost use Rattle.px_program.specs.Formed.{IsWellFormed};
+ghost use Rattle.px_link.specs.Link.{Blames, Reads, arguments_of};
 ghost use Rattle.px_pe.specs.Image.{image_of};
 ghost use Rattle.px_pe.specs.Image as pe;
 ghost use Rattle.px_tables.specs.Metadata.{View, metadata_of};
-ghost use Rattle.pex.specs.Answers.{ExplainsMethod, ExplainsNamed, IsAssembly, metadata_in};
+ghost use Rattle.pex.specs.Answers.{ExplainsMethod, ExplainsNamed, IsAssembly, is_explored, metadata_in};
 
 use crate::answer::{Answer, Refusal, told};
+use crate::form::{is_explored, other_form};
 use px_code::BodyFault;
-use px_domain::{DomainFault, read_domain};
 use px_link::{LinkFault, link};
 use px_meta::{Meta, MetaFault, resolve};
 use px_pe::{Image, read_pe};
-use px_program::{Method, Place, Program};
+use px_program::Program;
 use px_tables::{Tables, read_tables};
-use sqlite_items::Items;
-use std::alloc::{AllocError, Global};
+use std::alloc::Global;
 
 // The answer to the fault of a method's body.
 fn bad_body(fault: BodyFault, method: u32) -> Answer
@@ -31,76 +28,44 @@ fn bad_body(fault: BodyFault, method: u32) -> Answer
     }
 }
 
-// A program of one method that has these parameters and nothing else. A domain's text is read by the parameters of a program,
-// and a method of another form has none.
-fn bare_program(alloc: Global, params: Items<Place>) -> Result<Program, AllocError>
-    ensures { IfOk result (λ program. params_of program ≡ params) }
-{
-    let mut methods = Items::new(alloc);
-    methods.push(Method {
-        name: Items::new(alloc),
-        owner: 0,
-        is_static: true,
-        params,
-        ret: None,
-        locals: Items::new(alloc),
-        max_stack: 0,
-        code: Items::new(alloc),
-        clauses: Items::new(alloc),
-    })?;
-    Ok(Program {
-        types: Items::new(alloc),
-        methods,
-        entry: 0,
-        maker: None,
-    })
-}
-
-// The answer to a method of another form whose parameters have these places: the domain's text is looked at first.
-fn judged(alloc: Global, params: Items<Place>, text: &str) -> Answer
-    requires text { length text.now < 2 ^ 32 }
-    requires few { length params ≤ 16 }
-    requires integers { AllByRecursion IsInteger params }
-    ensures { (v : View) (image : pe.View) (name : List ℕ) → Blames v image name (LinkFault.Later (Some params)) → ExplainsNamed v image name text.now result }
-{
-    let program = match bare_program(alloc, params) {
-        Ok(program) => program,
-        Err(_) => return Answer::Memory,
-    };
-    match read_domain(alloc, text, &program) {
-        Ok(_) => Answer::Refused(Refusal::Unsupported),
-        Err(DomainFault::Memory) => Answer::Memory,
-        Err(DomainFault::Bad { at }) => Answer::Refused(Refusal::Domain(at)),
-    }
-}
-
-// The answer to a method of another form.
-fn later(alloc: Global, params: Option<Items<Place>>, text: &str) -> Answer
-    requires text { length text.now < 2 ^ 32 }
-    requires integers { (places : List Place) → params ≡ Some places → AllByRecursion IsInteger places }
-    ensures { (v : View) (image : pe.View) (name : List ℕ) → Blames v image name (LinkFault.Later params) → ExplainsNamed v image name text.now result }
-{
-    match params {
-        None => Answer::Refused(Refusal::Unsupported),
-        Some(params) if params.len() <= 16 => judged(alloc, params, text),
-        Some(_) => Answer::Refused(Refusal::Unsupported),
-    }
-}
-
 // The answer to a method that isn't linked.
-fn unlinked(alloc: Global, fault: LinkFault, text: &str) -> Answer
-    requires text { length text.now < 2 ^ 32 }
-    requires integers { (places : List Place) → fault ≡ LinkFault.Later (Some places) → AllByRecursion IsInteger places }
-    ensures { (v : View) (image : pe.View) (name : List ℕ) → Blames v image name fault → ExplainsNamed v image name text.now result }
+fn unlinked(fault: LinkFault) -> Answer
+    ensures { (v : View) (image : pe.View) (name : List ℕ) (text : List ℕ) → Blames v image name fault → ExplainsNamed v image name text result }
 {
     match fault {
         LinkFault::Memory => Answer::Memory,
         LinkFault::NoMethod => Answer::Refused(Refusal::NoMethod),
         LinkFault::Ambiguous => Answer::Refused(Refusal::Ambiguous),
         LinkFault::NoBody => Answer::Refused(Refusal::NoBody),
+        LinkFault::BadParameter(number) => Answer::Refused(Refusal::BadParameter(number)),
+        LinkFault::NoMaker => Answer::Refused(Refusal::NoMaker),
         LinkFault::BadBody { fault, method } => bad_body(fault, method),
-        LinkFault::Later { params } => later(alloc, params, text),
         LinkFault::RawLocals => Answer::Refused(Refusal::RawLocals),
+    }
+}
+
+// What a program gives over the domain of the text, where it is of the form that is explored.
+#[tactic(auto, using(crate::proofs::Exploring::few, crate::proofs::Exploring::integers))]
+fn explored(alloc: Global, program: Program, text: &str) -> Answer
+    requires formed { IsWellFormed program }
+    requires text { length text.now < 2 ^ 32 }
+    requires form { is_explored program ≡ true }
+    ensures { (v : View) (image : pe.View) (name : List ℕ) → Reads v image name program → ExplainsNamed v image name text.now result }
+{
+    told(alloc, program, text)
+}
+
+// What a linked program gives over the domain of the text.
+fn of_program(alloc: Global, program: Program, text: &str) -> Answer
+    requires formed { IsWellFormed program }
+    requires text { length text.now < 2 ^ 32 }
+    requires few { length (arguments_of program) ≤ 16 }
+    ensures { (v : View) (image : pe.View) (name : List ℕ) → Reads v image name program → ExplainsNamed v image name text.now result }
+{
+    if is_explored(&program) {
+        explored(alloc, program, text)
+    } else {
+        other_form(alloc, &program, text)
     }
 }
 
@@ -110,8 +75,8 @@ fn of_meta(alloc: Global, meta: &Meta, image: &Image, name: &str, text: &str) ->
     ensures { ExplainsNamed meta.now image.now name.now text.now result }
 {
     match link(alloc, meta, image, name) {
-        Ok(program) => told(alloc, program, text),
-        Err(fault) => unlinked(alloc, fault, text),
+        Ok(program) => of_program(alloc, program, text),
+        Err(fault) => unlinked(fault),
     }
 }
 

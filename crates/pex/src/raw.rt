@@ -44,8 +44,9 @@ fn unlinked(fault: LinkFault) -> Answer
         | LinkFault::NoMethod
         | LinkFault::Ambiguous
         | LinkFault::NoBody
-        | LinkFault::BadBody { .. }
-        | LinkFault::Later { .. } => Answer::Memory,
+        | LinkFault::BadParameter(_)
+        | LinkFault::NoMaker
+        | LinkFault::BadBody { .. } => Answer::Memory,
     }
 }
 

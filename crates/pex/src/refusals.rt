@@ -1,7 +1,7 @@
 // Writes the lines of refusals.
 ghost use Rattle.std.specs.Prelude.{◌≡◌};
 ghost use Rattle.px_io.specs.Puts.{Puts};
-ghost use Rattle.pex.specs.Lines.{ambiguous_line, body_kind_text, body_line, domain_line, meta_kind_text, meta_line, no_body_line, no_method_line, pe_kind_text, pe_line, raw_locals_line, refusal_line, table_kind_text, tables_line, unsupported_line};
+ghost use Rattle.pex.specs.Lines.{ambiguous_line, bad_parameter_line, body_kind_text, body_line, domain_line, meta_kind_text, meta_line, no_body_line, no_maker_line, no_method_line, pe_kind_text, pe_line, raw_locals_line, refusal_line, table_kind_text, tables_line, unsupported_line};
 
 use crate::answer::Refusal;
 use px_code::BodyKind;
@@ -115,6 +115,27 @@ fn put_no_body<O: Sink>(out: &mut O) -> Result<(), Stopped>
     put_pieces(out, &[Text("refused method NoBody\n")])
 }
 
+#[tactic(auto, unfolding(crate::specs::Lines::bad_parameter_line))]
+fn put_bad_parameter<O: Sink>(out: &mut O, number: u32) -> Result<(), Stopped>
+    ensures { Puts O.written O.faults out.old (bad_parameter_line number) out.new result }
+{
+    put_pieces(
+        out,
+        &[
+            Text("refused method BadParameter "),
+            Number(number),
+            Text("\n"),
+        ],
+    )
+}
+
+#[tactic(auto, unfolding(crate::specs::Lines::no_maker_line))]
+fn put_no_maker<O: Sink>(out: &mut O) -> Result<(), Stopped>
+    ensures { Puts O.written O.faults out.old no_maker_line out.new result }
+{
+    put_pieces(out, &[Text("refused method NoMaker\n")])
+}
+
 fn body_kind_text(kind: BodyKind) -> &'static str
     ensures { result.now ≡ body_kind_text kind }
 {
@@ -177,6 +198,8 @@ pub fn put_refusal<O: Sink>(out: &mut O, why: Refusal) -> Result<(), Stopped>
         Refusal::NoMethod => put_no_method(out),
         Refusal::Ambiguous => put_ambiguous(out),
         Refusal::NoBody => put_no_body(out),
+        Refusal::BadParameter(number) => put_bad_parameter(out, number),
+        Refusal::NoMaker => put_no_maker(out),
         Refusal::Body(kind, at, method) => put_body(out, kind, at, method),
         Refusal::RawLocals => put_raw_locals(out),
         Refusal::Domain(at) => put_domain_fault(out, at),

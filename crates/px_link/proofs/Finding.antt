@@ -1,6 +1,6 @@
 -- The one method of a name, found in one pass over the rows.
-use Rattle.std.proofs.Common.{◌≡◌, ◌≢◌, ℕ, suc, zero, ◌+◌, ◌-◌, ◌<◌, ◌≤◌, Bool, true, false, cond, List, Option, Some, None, length, get_or, refl, sym, ◌∙◌, subst, ⊎_elim, arith, Bor}
-use Rattle.std.specs.Prelude.{◌&&◌, nat_le, if◌then◌else◌, find, IfErr, IfOk, IfSome, MatchBool, MatchOption}
+use Rattle.std.proofs.Common.{◌≡◌, ◌≢◌, ℕ, suc, zero, ◌+◌, ◌-◌, ◌<◌, ◌≤◌, Bool, true, false, cond, List, Option, Some, None, length, get_or, refl, sym, ◌∙◌, subst, ⊎_elim, arith}
+use Rattle.std.specs.Prelude.{◌&&◌, nat_le, if◌then◌else◌, find, IfErr, IfOk, IfSome, MatchBool}
 use Rattle.std.specs.Option.{is_some, ok_or, unwrap_or}
 use Rattle.std.specs.List.{range_with_len}
 use Rattle.std.proofs.lemmas.Bool.{cases_eq}
@@ -14,8 +14,8 @@ use Rattle.px_meta.specs.Rows.{IsRow, cell, count_of, methods, nested_classes, r
 use Rattle.px_meta.specs.Tokens.{AreRows}
 use Rattle.px_meta.specs.declared.meta.MetaMethod.{MetaMethod}
 use Rattle.px_link.specs.declared.fault.LinkFault.TheVariants.{NoMethod}
-use Rattle.px_link.specs.Link.{AreTwo, Blames, IsTheMethod}
-use Rattle.px_link.specs.Names.{IsNamed}
+use Rattle.px_link.specs.Link.{AreTwo, Blames}
+use Rattle.px_link.specs.Names.{IsNamed, IsOnly}
 
 -- a row that is read is one of its table
 pub is_row : (v : View) (table n : ℕ) → n < count_of v table → IsRow v table (n + 1)
@@ -30,6 +30,12 @@ item_at Is v table items row d are there =
     let same : (row - 1) + 1 ≡ row = omega (arith, there.some) in
     subst (λ r. Is v r (get_or items (row - 1) d)) same
     (are.each (row - 1) (get_or items (row - 1) d) (slice_get-get_or items (row - 1) d (omega (arith, there.some, there.few, are.count))))
+
+-- the item of a row, as it is read
+pub item_of : {X : Type 0} (Is : View → ℕ → X → Type 0) (v : View) (table row : ℕ) (items : List X) (x : X) → AreRows Is v table items → IsRow v table row → x ≡ get_or items (row - 1) x → Is v row x
+item_of Is v table row items x are is e =
+    let same : (row - 1) + 1 ≡ row = omega (arith, is.some) in
+    subst (λ r. Is v r x) same (are.each (row - 1) x (slice_get_read items (count_of v table) (row - 1) x (sym are.count) (omega (arith, is.some, is.few)) e))
 
 -- what is found among some numbers is one of them
 abbrev IsWithin : ℕ → ℕ → ℕ → Type 0
@@ -83,18 +89,13 @@ outer_is_row v row = enclosed v (nesting_in v (rows_in v nested_classes) row)
 pub record IsNone (v : View) (name : List ℕ) (n : ℕ) : Type 0 where
   pub none : (row : ℕ) → row ≤ n → IsNamed v name row → ⊥
 
--- one of the first so many rows has the name, and it is that of the method
-pub record IsOne (v : View) (name : List ℕ) (n : ℕ) (method : MetaMethod) : Type 0 where
-  pub row : ℕ
+-- one of the first so many rows has the name, and it is this
+pub record IsOne (v : View) (name : List ℕ) (n row : ℕ) : Type 0 where
   pub within : row ≤ n
   pub named : IsNamed v name row
-  pub is : IsMethod v row method
   pub only : (other : ℕ) → other ≤ n → IsNamed v name other → other ≡ row
 
-pub none_begun : (v : View) (name : List ℕ) → IsNone v name 0
-none_begun v name = record { none = λ row few is. omega (arith, is.row.some) }
-
-pub none_more : (v : View) (name : List ℕ) (n : ℕ) → IsNone v name n → (IsNamed v name (n + 1) → ⊥) → IsNone v name (n + 1)
+none_more : (v : View) (name : List ℕ) (n : ℕ) → IsNone v name n → (IsNamed v name (n + 1) → ⊥) → IsNone v name (n + 1)
 none_more v name n before here = record {
   none = λ row few is.
       ⊎_elim
@@ -103,12 +104,10 @@ none_more v name n before here = record {
       (cases_eq row (n + 1));
 }
 
-pub one_begun : (v : View) (name : List ℕ) (n : ℕ) (method : MetaMethod) → IsNone v name n → IsNamed v name (n + 1) → IsMethod v (n + 1) method → IsOne v name (n + 1) method
-one_begun v name n method before here is = record {
-  row = n + 1;
+one_begun : (v : View) (name : List ℕ) (n : ℕ) → IsNone v name n → IsNamed v name (n + 1) → IsOne v name (n + 1) (n + 1)
+one_begun v name n before here = record {
   within = omega arith;
   named = here;
-  is = is;
   only = λ other few named.
       ⊎_elim
       (λ e. e)
@@ -116,12 +115,10 @@ one_begun v name n method before here is = record {
       (cases_eq other (n + 1));
 }
 
-pub one_more : (v : View) (name : List ℕ) (n : ℕ) (method : MetaMethod) → IsOne v name n method → (IsNamed v name (n + 1) → ⊥) → IsOne v name (n + 1) method
-one_more v name n method before here = record {
-  row = before.row;
+one_more : (v : View) (name : List ℕ) (n row : ℕ) → IsOne v name n row → (IsNamed v name (n + 1) → ⊥) → IsOne v name (n + 1) row
+one_more v name n row before here = record {
   within = omega (arith, before.within);
   named = before.named;
-  is = before.is;
   only = λ other few named.
       ⊎_elim
       (λ e. absurd (here (subst (λ r. IsNamed v name r) e named)))
@@ -129,28 +126,22 @@ one_more v name n method before here = record {
       (cases_eq other (n + 1));
 }
 
-pub are_two : (v : View) (name : List ℕ) (n : ℕ) (method : MetaMethod) → IsOne v name n method → IsNamed v name (n + 1) → AreTwo v name
-are_two v name n method before here = record {
-  first = before.row;
+are_two : (v : View) (name : List ℕ) (n row : ℕ) → IsOne v name n row → IsNamed v name (n + 1) → AreTwo v name
+are_two v name n row before here = record {
+  first = row;
   second = n + 1;
   named = before.named;
   named_too = here;
   apart = λ e. omega (arith, before.within);
 }
 
-pub nowhere : (v : View) (name : List ℕ) (n : ℕ) → IsNone v name n → count_of v methods ≤ n → (row : ℕ) → IsNamed v name row → ⊥
-nowhere v name n before all row named = before.none row (omega (arith, named.row.few)) named
+-- what the search has found so far
+abbrev pub IsFoundIn : View → List ℕ → ℕ → Option ℕ → Type 0
+IsFoundIn v name n None = IsNone v name n
+IsFoundIn v name n (Some row) = IsOne v name n row
 
-pub the_method : (v : View) (name : List ℕ) (n : ℕ) (method : MetaMethod) → IsOne v name n method → count_of v methods ≤ n → IsTheMethod v name method
-the_method v name n method before all = record {
-  row = before.row;
-  only = record { named = before.named; only = λ other named. before.only other (omega (arith, named.row.few)) named };
-  is = before.is;
-}
-
--- of the first so many rows none has the name, or the one that was found
-abbrev pub IsFoundIn : View → List ℕ → ℕ → Option (Bor MetaMethod) → Type 0
-IsFoundIn v name n found = MatchOption found (IsNone v name n) (λ m. IsOne v name n m.now)
+pub none_begun : (v : View) (name : List ℕ) → IsFoundIn v name 0 None
+none_begun v name = record { none = λ row few is. omega (arith, is.row.some) }
 
 -- what is told of the next row, which is that of the method
 abbrev pub IsTold : View → List ℕ → MetaMethod → Bool → Type 0
@@ -164,38 +155,44 @@ holds_not : {P : Type 0} (b : Bool) → b ≡ false → MatchBool b P (P → ⊥
 holds_not true e h = absurd (cc)
 holds_not false e h = h
 
-one_is : (v : View) (name : List ℕ) (n : ℕ) (before : Option (Bor MetaMethod)) (m : MetaMethod) → is_some before ≡ false → IsFoundIn v name n before → IsNamed v name (n + 1) → IsMethod v (n + 1) m → IsOne v name (n + 1) m
-one_is v name n None m none so_far here is = one_begun v name n m so_far here is
-one_is v name n (Some other) m none so_far here is = absurd (cc)
+one_is : (v : View) (name : List ℕ) (n : ℕ) (before : Option ℕ) → is_some before ≡ false → IsFoundIn v name n before → IsNamed v name (n + 1) → IsOne v name (n + 1) (n + 1)
+one_is v name n None none so_far here = one_begun v name n so_far here
+one_is v name n (Some other) none so_far here = absurd (cc)
 
-pub one_told : (v : View) (name : List ℕ) (n : ℕ) (before after : Option (Bor MetaMethod)) (m : Bor MetaMethod) (outcome : Bool) → after ≡ Some m → is_some before ≡ false
-    → IsFoundIn v name n before → outcome ≡ true → IsTold v name m.now outcome → n < count_of v methods → IsMethod v (n + 1) m.now → IsFoundIn v name (n + 1) after
+pub one_told : (v : View) (name : List ℕ) (n : ℕ) (before after : Option ℕ) (m : MetaMethod) (outcome : Bool) → after ≡ Some (n + 1) → is_some before ≡ false
+    → IsFoundIn v name n before → outcome ≡ true → IsTold v name m outcome → n < count_of v methods → IsMethod v (n + 1) m → IsFoundIn v name (n + 1) after
 one_told v name n before after m outcome is none so_far named' told few there =
     subst (λ o. IsFoundIn v name (n + 1) o) (sym is)
-    (one_is v name n before m.now none so_far (holds outcome named' (told (n + 1) (is_row v methods n few) there)) there)
+    (one_is v name n before none so_far (holds outcome named' (told (n + 1) (is_row v methods n few) there)))
 
-other_is : (v : View) (name : List ℕ) (n : ℕ) (before : Option (Bor MetaMethod)) → IsFoundIn v name n before → (IsNamed v name (n + 1) → ⊥) → IsFoundIn v name (n + 1) before
+other_is : (v : View) (name : List ℕ) (n : ℕ) (before : Option ℕ) → IsFoundIn v name n before → (IsNamed v name (n + 1) → ⊥) → IsFoundIn v name (n + 1) before
 other_is v name n None so_far here = none_more v name n so_far here
-other_is v name n (Some m) so_far here = one_more v name n m.now so_far here
+other_is v name n (Some row) so_far here = one_more v name n row so_far here
 
-pub other_told : (v : View) (name : List ℕ) (n : ℕ) (before after : Option (Bor MetaMethod)) (m : MetaMethod) (outcome : Bool) → after ≡ before
+pub other_told : (v : View) (name : List ℕ) (n : ℕ) (before after : Option ℕ) (m : MetaMethod) (outcome : Bool) → after ≡ before
     → IsFoundIn v name n before → outcome ≡ false → IsTold v name m outcome → n < count_of v methods → IsMethod v (n + 1) m → IsFoundIn v name (n + 1) after
 other_told v name n before after m outcome is so_far no' told few there =
     subst (λ o. IsFoundIn v name (n + 1) o) (sym is)
     (other_is v name n before so_far (holds_not outcome no' (told (n + 1) (is_row v methods n few) there)))
 
-two_are : (v : View) (name : List ℕ) (n : ℕ) (before : Option (Bor MetaMethod)) → is_some before ≡ true → IsFoundIn v name n before → IsNamed v name (n + 1) → AreTwo v name
+two_are : (v : View) (name : List ℕ) (n : ℕ) (before : Option ℕ) → is_some before ≡ true → IsFoundIn v name n before → IsNamed v name (n + 1) → AreTwo v name
 two_are v name n None some so_far here = absurd (cc)
-two_are v name n (Some m) some so_far here = are_two v name n m.now so_far here
+two_are v name n (Some row) some so_far here = are_two v name n row so_far here
 
-pub two_told : (v : View) (name : List ℕ) (n : ℕ) (before : Option (Bor MetaMethod)) (m : MetaMethod) (outcome : Bool) → is_some before ≡ true
+pub two_told : (v : View) (name : List ℕ) (n : ℕ) (before : Option ℕ) (m : MetaMethod) (outcome : Bool) → is_some before ≡ true
     → IsFoundIn v name n before → outcome ≡ true → IsTold v name m outcome → n < count_of v methods → IsMethod v (n + 1) m → AreTwo v name
 two_told v name n before m outcome some so_far named' told few there = two_are v name n before some so_far (holds outcome named' (told (n + 1) (is_row v methods n few) there))
 
-pub found_told : (v : View) (name : List ℕ) (n : ℕ) (found : Option (Bor MetaMethod)) → IsFoundIn v name n found → count_of v methods ≤ n → IfOk (ok_or found NoMethod) (λ m. IsTheMethod v name m.now)
-found_told v name n None is all = tt
-found_told v name n (Some m) is all = the_method v name n m.now is all
+the_one : (v : View) (name : List ℕ) (n row : ℕ) → IsOne v name n row → count_of v methods ≤ n → IsOnly v name row
+the_one v name n row is all = record { named = is.named; only = λ other named. is.only other (omega (arith, named.row.few, all)) named }
 
-pub fault_told : (v : View) (image : pe.View) (name : List ℕ) (n : ℕ) (found : Option (Bor MetaMethod)) → IsFoundIn v name n found → count_of v methods ≤ n → IfErr (ok_or found NoMethod) (Blames v image name)
+nowhere : (v : View) (name : List ℕ) (n : ℕ) → IsNone v name n → count_of v methods ≤ n → (row : ℕ) → IsNamed v name row → ⊥
+nowhere v name n is all row named = is.none row (omega (arith, named.row.few, all)) named
+
+pub found_told : (v : View) (name : List ℕ) (n : ℕ) (found : Option ℕ) → IsFoundIn v name n found → count_of v methods ≤ n → IfOk (ok_or found NoMethod) (IsOnly v name)
+found_told v name n None is all = tt
+found_told v name n (Some row) is all = the_one v name n row is all
+
+pub fault_told : (v : View) (image : pe.View) (name : List ℕ) (n : ℕ) (found : Option ℕ) → IsFoundIn v name n found → count_of v methods ≤ n → IfErr (ok_or found NoMethod) (Blames v image name)
 fault_told v image name n None is all = nowhere v name n is all
-fault_told v image name n (Some m) is all = tt
+fault_told v image name n (Some row) is all = tt

@@ -11,7 +11,7 @@ use Rattle.px_meta.specs.Rows.{IsRow, cell, methods, text_at, type_defs}
 use Rattle.px_meta.specs.declared.meta.MetaMethod.{MetaMethod}
 use Rattle.px_meta.specs.declared.meta.MetaType.{MetaType}
 use Rattle.px_link.specs.Names.{IsNamed, IsTypeName, own_name, type_name, with_namespace}
-use Rattle.px_link.proofs.Texts.{text_is}
+use Rattle.px_meta.proofs.Alike.{text_is}
 
 -- the text ends with no such ending
 abbrev pub EndsNot : List ℕ → List ℕ → Type 0
@@ -151,8 +151,8 @@ namespace_told text namespace name front rest (Some f) some is dot e = behind_na
 pub own_told : (v : View) (row : ℕ) (text namespace name : List ℕ) (answer : Option (Bor (List ℕ))) (t : MetaType) → IsType v row t → namespace ≡ t.namespace.now → name ≡ t.name.now
     → Tells text (with_namespace namespace name) answer → Tells text (own_name v row) answer
 own_told v row text namespace name answer t is namespace_is name_is told =
-    let one : namespace ≡ text_at v (cell v type_defs row 2) = namespace_is ∙ sym (text_is v.strings (cell v type_defs row 2) t.namespace.now is.namespace) in
-    let other : name ≡ text_at v (cell v type_defs row 1) = name_is ∙ sym (text_is v.strings (cell v type_defs row 1) t.name.now is.name) in
+    let one : namespace ≡ text_at v (cell v type_defs row 2) = namespace_is ∙ sym (text_is v (cell v type_defs row 2) t.namespace.now is.namespace) in
+    let other : name ≡ text_at v (cell v type_defs row 1) = name_is ∙ sym (text_is v (cell v type_defs row 1) t.name.now is.name) in
     let same : with_namespace namespace name ≡ own_name v row = ap (λ n. with_namespace n name) one ∙ ap (λ n. with_namespace (text_at v (cell v type_defs row 2)) n) other in
     subst (λ ending. Tells text ending answer) same told
 
@@ -162,7 +162,7 @@ some_by_test xs e empty = false≢true (sym e ∙ ap (λ ys. length ys == 0) emp
 front_of : (v : View) (name front : List ℕ) (row : ℕ) (m : MetaMethod) → IsMethod v row m → name ≡ front ++ m.name.now → (n : IsNamed v name row) → front ≡ n.type ++ codes "::"
 front_of v name front row m is own n =
     append_cancel_right front (n.type ++ codes "::") m.name.now
-    (sym own ∙ n.is ∙ ap (λ t. n.type ++ codes "::" ++ t) (text_is v.strings (cell v methods row 3) m.name.now is.name))
+    (sym own ∙ n.is ∙ ap (λ t. n.type ++ codes "::" ++ t) (text_is v (cell v methods row 3) m.name.now is.name))
 
 -- whether a method has the name, by what stands before its own
 pub named_told : (v : View) (name front type : List ℕ) (row : ℕ) (m : MetaMethod) (outcome : Bool) → IsRow v methods row → IsMethod v row m → m.owner ≢ 0
@@ -173,7 +173,7 @@ named_told v name front type row m true there is owned own colons told = record 
   owned = λ e. owned (is.owner ∙ e);
   type = type;
   type_is = subst (λ o. IsTypeName v o type) is.owner told;
-  is = own ∙ ap (λ f. f ++ m.name.now) colons ∙ ap (λ n. type ++ codes "::" ++ n) (sym (text_is v.strings (cell v methods row 3) m.name.now is.name));
+  is = own ∙ ap (λ f. f ++ m.name.now) colons ∙ ap (λ n. type ++ codes "::" ++ n) (sym (text_is v (cell v methods row 3) m.name.now is.name));
 }
 named_told v name front type row m false there is owned own colons told = λ n.
     let same : n.type ++ codes "::" ≡ type ++ codes "::" = sym (front_of v name front row m is own n) ∙ colons in
@@ -183,7 +183,7 @@ pub no_owner : (v : View) (name : List ℕ) (row : ℕ) (m : MetaMethod) → IsM
 no_owner v name row m is none n = n.owned (sym is.owner ∙ none)
 
 pub other_method : (v : View) (name : List ℕ) (row : ℕ) (m : MetaMethod) → IsMethod v row m → EndsNot name m.name.now → IsNamed v name row → ⊥
-other_method v name row m is ends n = ends (n.type ++ codes "::") (n.is ∙ ap (λ t. n.type ++ codes "::" ++ t) (text_is v.strings (cell v methods row 3) m.name.now is.name))
+other_method v name row m is ends n = ends (n.type ++ codes "::") (n.is ∙ ap (λ t. n.type ++ codes "::" ++ t) (text_is v (cell v methods row 3) m.name.now is.name))
 
 pub no_colons : (v : View) (name front : List ℕ) (row : ℕ) (m : MetaMethod) → IsMethod v row m → name ≡ front ++ m.name.now → EndsNot front (codes "::") → IsNamed v name row → ⊥
 no_colons v name front row m is own ends n = ends n.type (front_of v name front row m is own n)

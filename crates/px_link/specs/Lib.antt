@@ -1,4 +1,5 @@
 pub mod Link
 pub mod Names
-pub mod Opcodes
+pub mod Overrides
+pub mod Parts
 pub mod Raw

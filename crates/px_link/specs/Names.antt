@@ -1,9 +1,8 @@
 -- The names of methods: `Namespace.Type::Name`, where a nested type is `Outer/Inner`, and `Namespace.` is left out where the namespace is empty.
-use Rattle.std.specs.Prelude.{◌≡◌, ◌≢◌, ℕ, List, [], ◌∷◌, ◌++◌, codes}
+use Rattle.std.specs.Prelude.{◌≡◌, ◌≢◌, ℕ, List, ◌++◌, codes}
 use Rattle.px_tables.specs.Metadata.{View}
-use Rattle.px_meta.specs.Chains.{IsChain, outer_of}
 use Rattle.px_meta.specs.Members.{owner_of}
-use Rattle.px_meta.specs.Rows.{IsRow, cell, methods, text_at, type_defs}
+use Rattle.px_meta.specs.Rows.{IsRow, cell, methods, text_at}
 pub use Rattle.px_meta.specs.FullNames.{with_namespace, own_name, type_name, IsTypeName}
 
 -- A method of this name. A method that no type has is found by no name.

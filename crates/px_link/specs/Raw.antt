@@ -1,30 +1,19 @@
 -- The program of a raw body: one static method whose body the bytes begin with. No token of it names anything.
-use Rattle.std.specs.Prelude.{◌≡◌, ℕ, ◌+◌, List, [], ◌∷◌, ◌++◌, ◌==◌, Bool, true, false, if◌then◌else◌, codes, Option, Some, None, Ok, map}
+use Rattle.std.specs.Prelude.{◌≡◌, ℕ, ◌+◌, List, [], ◌∷◌, ◌++◌, ◌==◌, Bool, true, false, if◌then◌else◌, codes, Some, None, Ok, map}
 use Rattle.px_code.specs.declared.body.RawInstr.{RawInstr}
-use Rattle.px_code.specs.declared.body.RawClause.{RawClause}
 use Rattle.px_code.specs.declared.body.Body.{Body}
 use Rattle.px_code.specs.Body.{body_of}
 use Rattle.px_program.specs.Alone.{alone}
 use Rattle.px_program.specs.declared.instr.Instr.{Instr}
-use Rattle.px_program.specs.declared.program.Clause.{Clause}
-use Rattle.px_program.specs.declared.program.ClauseKind.{ClauseKind}
-use Rattle.px_program.specs.declared.program.ClauseKind.TheVariants as kinds
+use Rattle.px_methods.specs.Methods.{clause_of}
 use Rattle.px_program.specs.declared.program.Place.{Place}
 use Rattle.px_program.specs.declared.program.Place.TheVariants as places
 use Rattle.px_program.specs.declared.program.Method.{Method}
 use Rattle.px_program.specs.declared.program.Program.{Program}
-use Rattle.px_link.specs.Opcodes.{known_or_outside, plain_code}
+use Rattle.px_opcodes.specs.Opcodes.{known_or_outside, plain_code}
 
 abbrev pub instr_of : RawInstr → Instr
 instr_of raw = record { offset = raw.offset; next = raw.next; code = known_or_outside raw.opcode (plain_code raw) }
-
--- the kind of a clause by its flags
-abbrev pub kind_of : ℕ → ClauseKind
-kind_of flags = if flags == 0 then kinds.Catch else if flags == 1 then kinds.Filter else if flags == 2 then kinds.Finally else kinds.Fault
-
--- a clause for a class of this number, and of none where nothing matches
-abbrev pub clause_of : Option ℕ → RawClause → Clause
-clause_of class raw = record { kind = kind_of raw.flags; from = raw.from; to = raw.to; start = raw.start; stop = raw.stop; class = class }
 
 -- the number of a place among others, in their order
 abbrev pub number_of : Place → ℕ

@@ -2,8 +2,6 @@
 ghost use Rattle.std.specs.Prelude.{◌≡◌};
 
 use px_code::BodyFault;
-use px_program::Place;
-use sqlite_items::Items;
 use std::alloc::{AllocError, AllocFailed};
 
 /// Why a program isn't linked.
@@ -16,10 +14,12 @@ pub enum LinkFault {
     Ambiguous,
     /// The method has no body, or its signature isn't plain.
     NoBody,
+    /// A parameter, counted from 0, is neither an integer nor an array of integers, or is the seventeenth.
+    BadParameter(u32),
+    /// The method needs an object, and its class has no constructor that takes nothing and has a body.
+    NoMaker,
     /// The body of a method, by its number in the program, isn't read.
     BadBody { fault: BodyFault, method: u32 },
-    /// The method is of a form that isn't linked yet. Its parameters have these places, where all are integers.
-    Later { params: Option<Items<Place>> },
     /// The body of a raw method names a signature of locals, which only an assembly has.
     RawLocals,
 }

@@ -1,17 +1,14 @@
 //! Links what was read into a program that can be run.
 #![tactic(auto)]
 
-mod arrays;
+mod entry;
 mod fault;
-mod flow;
-mod form;
 #[cfg(test)]
 mod link_tests;
 mod linked;
+mod maker;
 mod name;
-mod numbers;
-mod opcode;
-mod outside;
+mod overrides;
 mod params;
 mod raw;
 #[cfg(test)]

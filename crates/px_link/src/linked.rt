@@ -1,92 +1,141 @@
 // The program of a method of an assembly.
-ghost use Rattle.std.specs.Prelude.{◌≡◌, List, Some, Err, IfOk, IfErr};
+ghost use Rattle.std.specs.Prelude.{◌≡◌, ◌≤◌, ◌<◌, ◌^◌, ◌∷◌, ℕ, List, length, IfOk, IfErr};
 ghost use Rattle.std.specs.List.{AllByRecursion};
-ghost use Rattle.px_code.specs.Body.{IsFormed};
-ghost use Rattle.px_code.specs.Reading.{Gives};
+ghost use Rattle.px_methods.specs.Methods.{met_by_all};
 ghost use Rattle.px_pe.specs.Image as pe;
-ghost use Rattle.px_program.specs.Formed.{IsInteger, IsWellFormed};
-ghost use Rattle.px_program.specs.declared.program.Place.{Place};
-ghost use Rattle.px_link.specs.Link.{Blames, IsTheMethod, Reads, TakesInt32s, bad_body, body_at};
+ghost use Rattle.px_program.specs.Formed.{IsWellFormed};
+ghost use Rattle.px_reach.specs.Met.{IsOwned, IsReached};
+ghost use Rattle.px_reach.specs.Overriders.{AreLists};
+ghost use Rattle.px_types.specs.Numbers.{Numbers, library_keys};
+ghost use Rattle.px_link.specs.Link.{Blames, Reads, arguments_of, maker_number, rows_of};
+ghost use Rattle.px_link.specs.Parts.{IsEntryOf, IsLinked, IsReachedFrom, fault_of};
 
 use crate::LinkFault;
-use crate::form::{int32s, is_linked, places_of};
-use crate::name::is_named;
-use crate::raw::program_with;
-use px_code::{Body, BodyFault, BodyKind, read_body};
-use px_meta::{Meta, MetaMethod};
+use crate::entry::{Entry, find_entry};
+use crate::overrides::types_of;
+use px_code::BodyFault;
+use px_meta::Meta;
+use px_methods::{met_by_all, methods_of};
+use px_operands::Tokens;
 use px_pe::Image;
 use px_program::Program;
-use std::alloc::Global;
+use px_reach::{Overriding, ReachFault, Reached, Whole, reach};
+use px_types::Types;
+use sqlite_items::Items;
+use std::alloc::{AllocError, Global};
 
-// The one method of this name.
-fn find_method<'m, 'a>(meta: &'m Meta<'a>, name: &[u8]) -> Result<&'m MetaMethod<'a>, LinkFault>
-    ensures found { IfOk result (λ method. IsTheMethod meta.now name.now method.now) }
-    ensures fault { (image : pe.View) → IfErr result (Blames meta.now image name.now) }
+// The methods that a program starts with.
+fn starts_of(alloc: Global, entry: &Entry) -> Result<Vec<u32>, AllocError>
+    ensures { IfOk result (λ starts. starts.items ≡ entry.now.method ∷ rows_of entry.now.maker) }
 {
-    let mut found = None;
-    for method in meta.methods() {
-        if is_named(meta, method, name) {
-            if found.is_some() {
-                return Err(LinkFault::Ambiguous);
-            }
-            found = Some(method);
-        }
+    let mut starts = Vec::new(alloc);
+    starts.push(entry.method)?;
+    if let Some(maker) = entry.maker {
+        starts.push(maker)?;
     }
-    found.ok_or(LinkFault::NoMethod)
+    Ok(starts)
 }
 
-// Reads the body at an address; one that no section holds is cut.
-fn body_at(alloc: Global, image: &Image, rva: u32) -> Result<Body, BodyFault>
-    ensures exact { Gives (λ body. body) result (body_at image.now rva) }
-    ensures formed { IfOk result IsFormed }
-{
-    match image.rest_at(rva) {
-        Some(span) => read_body(
-            alloc,
-            &image.bytes()[span.start as usize..][..span.len as usize],
-        ),
-        None => Err(BodyFault::Bad {
-            kind: BodyKind::Cut,
-            at: 0,
-        }),
-    }
-}
-
-// The fault of the method's body, which is the first that is met.
-fn bad_body(fault: BodyFault) -> LinkFault
-    ensures { result ≡ bad_body fault }
+// The fault of a body that isn't read.
+fn fault_of(fault: ReachFault) -> LinkFault
+    ensures { result ≡ fault_of fault }
 {
     match fault {
-        BodyFault::Memory => LinkFault::Memory,
-        BodyFault::Bad { .. } => LinkFault::BadBody { fault, method: 0 },
+        ReachFault::Memory => LinkFault::Memory,
+        ReachFault::Bad { kind, at, method } => LinkFault::BadBody {
+            fault: BodyFault::Bad { kind, at },
+            method,
+        },
     }
 }
 
-/// The program of the one method of this name: `Namespace.Type::Name`, where a nested type is `Outer/Inner`. A static method of at most four
-/// int32 that returns one, with neither locals nor clauses nor tokens in its body, is linked so far. The faults are told in this order: no method
-/// of the name, more than one, no body or a signature that isn't plain, a body that isn't read, another form of method or body.
+// The number of the maker, where there is one.
+fn maker_number(rows: &[u32], maker: Option<u32>) -> Option<u32>
+    requires { length rows.now < 2 ^ 32 }
+    ensures { result ≡ maker_number rows.now maker }
+{
+    let maker = maker?;
+    for (at, row) in rows.iter().enumerate() {
+        if *row == maker {
+            return Some(at as u32);
+        }
+    }
+    Some(rows.len() as u32)
+}
+
+// The types that methods meet.
+fn types_met<'m, 'a>(
+    alloc: Global,
+    tokens: &Tokens<'m, 'a>,
+    rows: &[u32],
+    bodies: &[Whole],
+) -> Result<Types<'m, 'a>, AllocError>
+    requires owned { AllByRecursion (IsOwned tokens.now) rows.now }
+    requires pairs { length bodies.now ≡ length rows.now }
+    ensures tables { IfOk result (λ types. types.tables ≡ tokens.now) }
+    ensures numbers { IfOk result (λ types. Numbers tokens.now library_keys (met_by_all tokens.now rows.now bodies.now) types.keys) }
+{
+    let met = met_by_all(alloc, tokens, rows, bodies)?;
+    let mut types = Types::new(alloc, tokens.meta())?;
+    types.meet(&met)?;
+    Ok(types)
+}
+
+// The program of the methods that are reached.
+fn program_of(
+    alloc: Global,
+    tokens: &Tokens,
+    overriding: &Overriding,
+    entry: &Entry,
+    reached: &Reached,
+) -> Result<Program, AllocError>
+    requires same { overriding.now.tables ≡ tokens.now }
+    requires owned { AllByRecursion (IsOwned tokens.now) reached.now.rows }
+    requires few { length reached.now.rows < 2 ^ 32 }
+    requires lists { AreLists tokens.now overriding.now.lists }
+    requires reached { IsReachedFrom tokens.now overriding.now.lists entry.now reached.now }
+    ensures { (image : pe.View) (name : List ℕ) → IsEntryOf tokens.now name entry.now → IsReached tokens.now image overriding.now.lists (entry.now.method ∷ rows_of entry.now.maker) reached.now → IfOk result (IsLinked tokens.now image name) }
+{
+    let rows = reached.rows.as_slice();
+    let bodies = reached.bodies.as_slice();
+    let targets = reached.virtual_targets.as_slice();
+    let types = types_met(alloc, tokens, rows, bodies)?;
+    let infos = types_of(alloc, tokens.meta(), overriding, &types, rows, targets)?;
+    let methods = methods_of(alloc, tokens, &types, rows, bodies)?;
+    Ok(Program {
+        types: Items::from_vec(infos),
+        methods: Items::from_vec(methods),
+        entry: 0,
+        maker: maker_number(rows, entry.maker),
+    })
+}
+
+// The program of a method with all that it reaches.
+fn linked(alloc: Global, meta: &Meta, image: &Image, entry: &Entry) -> Result<Program, LinkFault>
+    requires { AllByRecursion (IsOwned meta.now) (entry.now.method ∷ rows_of entry.now.maker) }
+    ensures program { (name : List ℕ) → IsEntryOf meta.now name entry.now → IfOk result (IsLinked meta.now image.now name) }
+    ensures fault { (name : List ℕ) → IsEntryOf meta.now name entry.now → IfErr result (Blames meta.now image.now name) }
+{
+    let tokens = Tokens::new(alloc, meta)?;
+    let overriding = Overriding::new(alloc, meta)?;
+    let starts = starts_of(alloc, entry)?;
+    let reached = match reach(alloc, &tokens, &overriding, image, &starts) {
+        Ok(reached) => reached,
+        Err(fault) => return Err(fault_of(fault)),
+    };
+    Ok(program_of(alloc, &tokens, &overriding, entry, &reached)?)
+}
+
+/// The program of the one method of this name: `Namespace.Type::Name`, where a nested type is `Outer/Inner`. It has the method, the constructor
+/// that makes its object where it needs one, and all methods that calls and overriding reach, with all types that these meet. The faults are told in
+/// this order: no method of the name, more than one, no body or a signature that isn't plain, a parameter that can't be given, no constructor for the
+/// object, the first body by the number of its method that isn't read.
 pub fn link(alloc: Global, meta: &Meta, image: &Image, name: &str) -> Result<Program, LinkFault>
     ensures reads { IfOk result (Reads meta.now image.now name.now) }
     ensures well_formed { IfOk result IsWellFormed }
-    ensures params { IfOk result TakesInt32s }
+    ensures few { IfOk result (λ program. length (arguments_of program) ≤ 16) }
     ensures fault { IfErr result (Blames meta.now image.now name.now) }
-    ensures later { (params : List Place) → result ≡ Err (LinkFault.Later (Some params)) → AllByRecursion IsInteger params }
 {
-    let name = name.as_bytes();
-    let method = find_method(meta, name)?;
-    if method.rva == 0 || !method.sig.plain {
-        return Err(LinkFault::NoBody);
-    }
-    let body = match body_at(alloc, image, method.rva) {
-        Ok(body) => body,
-        Err(fault) => return Err(bad_body(fault)),
-    };
-    let params = method.sig.params.as_slice();
-    if !is_linked(&method.sig, &body) {
-        return Err(LinkFault::Later {
-            params: places_of(alloc, params)?,
-        });
-    }
-    let params = int32s(alloc, params)?;
-    Ok(program_with(alloc, &[], name, &body, &params)?)
+    let entry = find_entry(meta, name.as_bytes())?;
+    linked(alloc, meta, image, &entry)
 }

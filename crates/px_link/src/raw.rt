@@ -5,13 +5,15 @@ ghost use Rattle.px_code.specs.Body.{IsFormed};
 ghost use Rattle.px_program.specs.Alone.{alone, types_with};
 ghost use Rattle.px_program.specs.Formed.{FitsPlace, IsInteger, IsWellFormed};
 ghost use Rattle.px_link.specs.Link.{BlamesRaw};
-ghost use Rattle.px_link.specs.Raw.{clause_of, instr_of, kind_of, method_of, program_of};
+ghost use Rattle.px_link.specs.Raw.{instr_of, method_of, program_of};
+ghost use Rattle.px_methods.specs.Methods.{clause_of};
 
 use crate::LinkFault;
-use crate::opcode::code_of;
 use crate::params::{elements_of, params_of};
 use px_code::{Body, RawClause, RawInstr};
-use px_program::{Clause, ClauseKind, Instr, Method, Place, Program, alone};
+use px_methods::clause_of;
+use px_opcodes::code_of;
+use px_program::{Clause, Instr, Method, Place, Program, alone};
 use sqlite_items::Items;
 use std::alloc::{AllocError, Global};
 
@@ -35,36 +37,10 @@ fn instrs_of(alloc: Global, raws: &[RawInstr]) -> Result<Vec<Instr>, AllocError>
     Ok(code)
 }
 
-// The kind of a clause by its flags.
-fn kind_of(flags: u32) -> ClauseKind
-    ensures { result ≡ kind_of flags }
-{
-    match flags {
-        0 => ClauseKind::Catch,
-        1 => ClauseKind::Filter,
-        2 => ClauseKind::Finally,
-        _ => ClauseKind::Fault,
-    }
-}
-
-// The clause of no class.
-fn clause_of(raw: &RawClause) -> Clause
-    ensures { result ≡ clause_of None raw.now }
-{
-    Clause {
-        kind: kind_of(raw.flags),
-        from: raw.from,
-        to: raw.to,
-        start: raw.start,
-        stop: raw.stop,
-        class: None,
-    }
-}
-
 fn clauses_of(alloc: Global, raws: &[RawClause]) -> Result<Vec<Clause>, AllocError>
     ensures { IfOk result (λ clauses. clauses.items ≡ map (clause_of None) raws.now) }
 {
-    raws.iter().map(|raw| clause_of(raw)).collect(alloc)
+    raws.iter().map(|raw| clause_of(None, raw)).collect(alloc)
 }
 
 // The static method of this name with these parameters that returns an int32.
@@ -89,9 +65,9 @@ fn method_of(
     })
 }
 
-/// The program of this method alone, over the arrays of these elements.
+// The program of this method alone, over the arrays of these elements.
 #[tactic(auto, using(crate::proofs::Formed::begins))]
-pub fn program_with(
+fn program_with(
     alloc: Global,
     elements: &[Place],
     name: &[u8],

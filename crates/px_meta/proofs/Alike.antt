@@ -33,7 +33,7 @@ before_zero (b ∷ text) rest none =
     let later : take_while (λ byte. not (byte == 0)) (text ++ 0 ∷ rest) ≡ text = before_zero text rest (All-tail (λ byte. byte ≢ 0) b text none) in
     take_while-cons (λ byte. not (byte == 0)) b (text ++ 0 ∷ rest) ∙ ap (λ (e : Bool). cond (not e) (b ∷ take_while (λ byte. not (byte == 0)) (text ++ 0 ∷ rest)) []) test ∙ ap (λ xs. b ∷ xs) later
 
-text_is : (v : View) (at : ℕ) (text : List ℕ) → IsStringAt v.strings at text → text_at v at ≡ text
+pub text_is : (v : View) (at : ℕ) (text : List ℕ) → IsStringAt v.strings at text → text_at v at ≡ text
 text_is v at text is = ap (λ bytes. take_while (λ byte. not (byte == 0)) bytes) is.stands ∙ before_zero text is.rest is.no_zero
 
 -- what was read of two methods decides whether the one may override the other

@@ -6,6 +6,7 @@ pub mod Deriving
 pub mod Lengths
 pub mod Naming
 pub mod Nearest
+pub mod Overridden
 pub mod Rows
 pub mod Saying
 pub mod Texts

@@ -1,14 +1,14 @@
 -- What rows of MethodImpl say, where they are walked from the last one.
-use Rattle.std.proofs.Common.{◌≡◌, ◌≢◌, ◌⊎◌, ℕ, ◌+◌, ◌-◌, ◌<◌, ◌≤◌, Bool, true, false, List, length, get_or, replicate, Option, Some, None, refl, sym, ap, ◌∙◌, subst, inl, inr, ⊎_elim, arith}
-use Rattle.std.specs.Prelude.{MatchBool, MatchOption, slice_get}
-use Rattle.std.proofs.lemmas.Bool.{cases_eq, cases_lt}
+use Rattle.std.proofs.Common.{◌≡◌, ◌≢◌, ℕ, ◌+◌, ◌-◌, ◌<◌, ◌≤◌, Bool, true, false, List, length, get_or, replicate, Option, Some, None, sym, ◌∙◌, subst, ⊎_elim, arith}
+use Rattle.std.specs.Prelude.{MatchBool, MatchOption}
+use Rattle.std.proofs.lemmas.Bool.{cases_eq}
 use Rattle.std.proofs.lemmas.Option.{get_or_from_slice_get, slice_get_within}
 use Rattle.px_tables.specs.Metadata.{View}
 use Rattle.px_meta.specs.Impls.{IsDeclared, IsNamed}
 use Rattle.px_meta.specs.Members.{owner_of}
-use Rattle.px_meta.specs.Overriding.{IsFirstSaid, IsNearest, IsSaid, MayOverride, is_new_slot}
-use Rattle.px_meta.specs.Rows.{IsRow, cell, count_of, method_impls, methods, row_by, token}
-use Rattle.px_meta.specs.Tokens.{AreRows, IsOverridden, Names, row_in}
+use Rattle.px_meta.specs.Overriding.{IsNearest, IsSaid, is_new_slot}
+use Rattle.px_meta.specs.Rows.{count_of, method_impls, methods}
+use Rattle.px_meta.specs.Tokens.{AreRows}
 use Rattle.px_meta.proofs.Behind.{get_or-nones, length-same}
 
 -- the first row behind so many that says what the method overrides
@@ -90,21 +90,3 @@ pub named_or_none : (v : View) (method owner : ℕ) (o : Option ℕ) → owner �
     → MatchOption o ((other : ℕ) → is_new_slot v method ≡ false → IsNearest v method (owner_of v methods method) other → ⊥) (IsNamed v method)
 named_or_none v method owner None e old none = λ other slot n. none other (subst (λ t. IsNearest v method t other) (sym e) n)
 named_or_none v method owner (Some x) e old n = record { old_slot = old; nearest = subst (λ t. IsNearest v method t x) e n }
-
--- what a token's method overrides
-pub nothing_overridden : (v : View) (at row : ℕ) (declared : Option ℕ) → row ≡ row_in at → IsDeclared v (row_in at) declared → declared ≡ None
-    → ((other : ℕ) → is_new_slot v row ≡ false → IsNearest v row (owner_of v methods row) other → ⊥) → (other : ℕ) → IsOverridden v at other → ⊥
-nothing_overridden v at row declared e is none unnamed other o =
-    let nobody = subst (λ d. IsDeclared v (row_in at) d) none is in
-    let by = subst (λ r. (other : ℕ) → is_new_slot v r ≡ false → IsNearest v r (owner_of v methods r) other → ⊥) e unnamed in
-    ⊎_elim (λ first. nobody first.row o.row first.said) (λ named. by o.row named.old_slot named.nearest) o.overrides
-
-pub said_overridden : (v : View) (at row other result : ℕ) (declared : Option ℕ) → Names v methods at → IsDeclared v (row_in at) declared → declared ≡ Some other → result ≡ token methods other → IsOverridden v at result
-said_overridden v at row other result declared names is some e = record { names = names; row = other; overrides = inl (subst (λ d. IsDeclared v (row_in at) d) some is); other_is = e }
-
-pub named_overridden : (v : View) (at row other result : ℕ) (declared : Option ℕ) → Names v methods at → row ≡ row_in at → IsDeclared v (row_in at) declared → declared ≡ None → IsNamed v row other → result ≡ token methods other
-    → IsOverridden v at result
-named_overridden v at row other result declared names e is none named result_is =
-    let nobody = subst (λ d. IsDeclared v (row_in at) d) none is in
-    let by = subst (λ r. IsNamed v r other) e named in
-    record { names = names; row = other; overrides = inr (record { nobody_says = λ r o said. nobody r o said; old_slot = by.old_slot; nearest = by.nearest }); other_is = result_is }

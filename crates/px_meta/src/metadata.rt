@@ -1,8 +1,9 @@
 // Resolves metadata.
-ghost use Rattle.std.specs.Prelude.{◌≡◌, ℕ, MatchOption, OnOk, IfOk, IfErr};
+ghost use Rattle.std.specs.Prelude.{◌≡◌, ℕ, MatchOption, OnOk, IfOk, IfErr, IfSome};
 ghost use Rattle.px_meta.specs.Faults.{Blames, IsFaultless};
 ghost use Rattle.px_meta.specs.Members.{IsField, IsMethod, IsType};
-ghost use Rattle.px_meta.specs.Rows.{fields, methods, type_defs, type_specs};
+ghost use Rattle.px_meta.specs.Overriding.{Overrides};
+ghost use Rattle.px_meta.specs.Rows.{IsRow, fields, methods, type_defs, type_specs};
 ghost use Rattle.px_meta.specs.Tokens.{AreRows, IsMember, IsOverridden, IsTypeName, IsTypeSpec, Names, NamesMember, NamesType};
 
 use crate::fault::MetaFault;
@@ -146,18 +147,25 @@ impl<'a> Meta<'a> {
         Some(&self.specs[row as usize - 1])
     }
 
-    /// The token of the method that a method overrides: of the declaration of the first row of MethodImpl that has it as body, and where there is
-    /// none and it begins no new slot, of the first method with its name in the nearest base that has one. None exactly where it overrides none.
+    /// The row of the method that a method overrides: the declaration of the first row of MethodImpl that has it as body, and where there is none and it
+    /// begins no new slot, the first method with its name in the nearest base that has one. None exactly where it overrides none.
+    pub fn overridden_row(&self, row: u32) -> Option<u32>
+        requires { IsRow self.now methods row }
+        ensures overridden { MatchOption result ((other : ℕ) → Overrides self.now row other → ⊥) (Overrides self.now row) }
+        ensures there { IfSome result (IsRow self.now methods) }
+    {
+        if let Some(other) = self.declared[row as usize - 1] {
+            return Some(other);
+        }
+        by_name(&self.tables, &self.methods, row)
+    }
+
+    /// The token of the method that a token's method overrides. None exactly where it overrides none, or the token is that of no method.
     pub fn overridden(&self, token: u32) -> Option<u32>
         ensures { MatchOption result ((other : ℕ) → IsOverridden self.now token other → ⊥) (IsOverridden self.now token) }
     {
         let row = row_named(&self.tables, METHODS, token)?;
-        if let Some(other) = self.declared[row as usize - 1] {
-            return Some(token_of(METHODS, other));
-        }
-        match by_name(&self.tables, &self.methods, row) {
-            Some(named) => Some(token_of(METHODS, named)),
-            None => None,
-        }
+        let other = self.overridden_row(row)?;
+        Some(token_of(METHODS, other))
     }
 }

@@ -290,6 +290,8 @@ fn finds_overridden(rt: HostRuntime) {
                         let overridden = meta.overridden(token).map_or(0, |other| other % 0x100);
                         assert_eq!(rt; overridden, *row, "{token:x} in {damage:?}");
                     }
+                    assert!(rt; meta.tables().rows(0x06) == 5);
+                    assert_eq!(rt; meta.overridden_row(4).unwrap_or(0), rows[3]);
                     assert_eq!(rt; meta.overridden(0x0600_0006), None);
                     assert_eq!(rt; meta.overridden(0x0400_0001), None);
                 }

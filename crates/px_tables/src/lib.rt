@@ -12,6 +12,8 @@ mod tables;
 #[cfg(test)]
 mod tests;
 
-pub use column::{CodedIndex, Column, Heap};
+pub use column::{CodedIndex, Column, Heap, columns};
+pub use counts::Counts;
 pub use fault::{TableFault, TableKind};
+pub use rows::has_indexes_looked_at;
 pub use tables::{Row, Tables, read_tables};

@@ -3,7 +3,7 @@ ghost use Rattle.std.specs.Prelude.{◌≡◌, ◌+◌, ◌≤◌, ◌<◌, ◌^
 ghost use Rattle.std.specs.List.{sum_by};
 ghost use Rattle.byteorder.specs.Endian.{little_number};
 ghost use Rattle.px_tables.specs.Counts.{column_size, rows_of};
-ghost use Rattle.px_tables.specs.Rows.{bad_in_columns, bad_in_rows, bad_in_tables, cell_at, cut_of, first_bad, row_of, start_of};
+ghost use Rattle.px_tables.specs.Rows.{bad_in_columns, bad_in_rows, bad_in_tables, cell_at, cut_of, first_bad, has_indexes_looked_at, row_of, start_of};
 
 use crate::column::{Column, columns};
 use crate::counts::Counts;
@@ -12,6 +12,13 @@ use std::marker::Model;
 
 // The tables whose indexes are looked at.
 static LOOKED_AT: [u8; 9] = [0x01, 0x02, 0x04, 0x06, 0x0A, 0x11, 0x19, 0x1B, 0x29];
+
+/// Whether the indexes in a table are looked at when the tables are read.
+pub fn has_indexes_looked_at(table: u8) -> bool
+    ensures { result ≡ has_indexes_looked_at table }
+{
+    LOOKED_AT.iter().any(|looked| *looked == table)
+}
 
 /// The rows of all tables, one table after the other. They lie whole within the bytes.
 #[derive(Debug, Drop)]

@@ -92,7 +92,7 @@ too_deep (suc count) key fits many =
 deep_some : (count : ℕ) (key : Key) → 2 ^ 32 ≤ count + 1 → in_arrays count (array_in (Some key)) ≡ None
 deep_some count key many = deep_by count key (cases_lt (key.depth + 1) (2 ^ 32)) (λ less. too_deep count (record { depth = key.depth + 1; leaf = key.leaf }) less (omega arith))
 
-deep_in : (count : ℕ) (key : Option Key) → 2 ^ 32 ≤ count + 1 → in_arrays count (array_in key) ≡ None
+pub deep_in : (count : ℕ) (key : Option Key) → 2 ^ 32 ≤ count + 1 → in_arrays count (array_in key) ≡ None
 deep_in count None many = none_within count
 deep_in count (Some key) many = deep_some count key many
 

@@ -46,13 +46,13 @@ integer_fits integers.N = tt
 integer_fits integers.UN = tt
 
 -- a type that isn't an integer has its number among the keys
-has_by : (keys : List Key) (key : Key) → is_integer key ≡ false → is_numbered keys key ≡ true → has_key keys key ≡ true
+pub has_by : (keys : List Key) (key : Key) → is_integer key ≡ false → is_numbered keys key ≡ true → has_key keys key ≡ true
 has_by keys key other is = ⊎_elim (λ integer. absurd (cc)) (λ has. has) (or_cases (is_integer key) (has_key keys key) is)
 
 array_no_integer : (depth : ℕ) (leaf : Leaf) → is_integer (record { depth = suc depth; leaf = leaf }) ≡ false
 array_no_integer depth leaf = and_left (suc depth == 0) (is_integer_leaf leaf) (ne_eqb (suc depth) 0 (λ e. omega arith))
 
-place_fits : (keys : List Key) (types : List TypeInfo) → length types ≡ length keys → (depth : ℕ) (leaf : Leaf) → is_numbered keys (record { depth = depth; leaf = leaf }) ≡ true → FitsPlace types (place_of_leaf keys depth leaf)
+pub place_fits : (keys : List Key) (types : List TypeInfo) → length types ≡ length keys → (depth : ℕ) (leaf : Leaf) → is_numbered keys (record { depth = depth; leaf = leaf }) ≡ true → FitsPlace types (place_of_leaf keys depth leaf)
 place_fits keys types size zero (Number integer) is = FitsPlace-integer types (integer_place integer) (integer_fits integer)
 place_fits keys types size zero (Library number) is = omega (arith, size, number_below keys (alone (Library number)) (has_by keys (alone (Library number)) refl is))
 place_fits keys types size zero (Defined row) is = omega (arith, size, number_below keys (alone (Defined row)) (has_by keys (alone (Defined row)) refl is))
@@ -70,7 +70,7 @@ record StandFor (v : View) (keys : List Key) (types : List TypeInfo) : Type 0 wh
   pub infos : AreInfos v keys types
 
 -- a place in a list has what stands there, or is past the end
-at_place : {X : Type 0} (xs : List X) (n : ℕ) → n < length xs → (x : X) × (slice_get xs n ≡ Some x)
+pub at_place : {X : Type 0} (xs : List X) (n : ℕ) → n < length xs → (x : X) × (slice_get xs n ≡ Some x)
 at_place [] n less = absurd (omega arith)
 at_place (x ∷ xs) zero less = (x, refl)
 at_place (x ∷ xs) (suc n) less = at_place xs n (omega arith)

@@ -60,7 +60,7 @@ library_at v keys are n less =
 pub known_at : (v : View) (keys : List Key) → AreKnown v keys → (n : ℕ) (key : Key) → slice_get keys n ≡ Some key → IsKnown v keys key
 known_at v keys are n key is = each_at (IsKnown v keys) keys are.known n key is
 
-has_at : (keys : List Key) (n : ℕ) (key : Key) → slice_get keys n ≡ Some key → has_key keys key ≡ true
+pub has_at : (keys : List Key) (n : ℕ) (key : Key) → slice_get keys n ≡ Some key → has_key keys key ≡ true
 has_at [] n key is = absurd (cc)
 has_at (other ∷ keys) zero key is = let same : other ≡ key = cc in or_left (key_eq key other) (has_key keys key) (subst (λ k. key_eq key k ≡ true) (sym same) (key_eq-refl key))
 has_at (other ∷ keys) (suc n) key is = or_right (key_eq key other) (has_key keys key) (has_at keys n key is)

@@ -27,8 +27,8 @@ fn is_interface(tables: &Tables, row: u32) -> bool
     cell_of(tables, TYPE_DEFS, row, 0) / 32 % 2 == 1
 }
 
-// Whether a type is a class: neither an interface nor a struct or enum.
-fn is_class(tables: &Tables, row: u32) -> bool
+/// Whether a type of the assembly is a class: neither an interface nor a struct or enum.
+pub fn is_class(tables: &Tables, row: u32) -> bool
     requires { IsRow tables.now type_defs row }
     ensures { result ≡ is_class tables.now row }
 {

@@ -13,6 +13,11 @@ mod table;
 mod tests;
 mod types;
 
-pub use classes::{class_of, key_of, place_key};
+pub use classes::{class_of, is_class, key_of, place_key};
 pub use key::{Key, Leaf};
+pub use library::{is_system, library_ref, ref_name};
+pub use naming::full_name;
+pub use numbers::is_integer;
+pub use own::{instance_fields, static_fields};
+pub use table::{FIELDS, TYPE_DEFS, TYPE_REFS, cell_of, some_row, text_at};
 pub use types::Types;

@@ -52,8 +52,8 @@ fn library_number(name: &[u8]) -> Option<u32>
     None
 }
 
-// Whether a row of TypeRef is nested in no other, and of the namespace `System`.
-fn is_system(tables: &Tables, row: u32) -> bool
+/// Whether a row of TypeRef is nested in no other, and of the namespace `System`.
+pub fn is_system(tables: &Tables, row: u32) -> bool
     requires { IsRow tables.now type_refs row }
     ensures { result ≡ is_system tables.now row }
 {
@@ -61,7 +61,8 @@ fn is_system(tables: &Tables, row: u32) -> bool
         && text_at(tables, cell_of(tables, TYPE_REFS, row, 2)) == b"System".as_slice()
 }
 
-fn ref_name<'a>(tables: &Tables<'a>, row: u32) -> &'a [u8]
+/// The bytes of the name of a row of TypeRef, without its namespace.
+pub fn ref_name<'a>(tables: &Tables<'a>, row: u32) -> &'a [u8]
     requires { IsRow tables.now type_refs row }
     ensures { result.now ≡ ref_name tables.now row }
 {

@@ -11,8 +11,8 @@ use indexmap::IndexSet;
 use px_meta::Meta;
 use std::alloc::{AllocError, Global};
 
-// Whether a key is an integer alone, which is no type.
-fn is_integer(key: Key) -> bool
+/// Whether a key is an integer alone, which is no type.
+pub fn is_integer(key: Key) -> bool
     ensures { result ≡ is_integer key }
 {
     key.depth == 0 && matches!(key.leaf, Leaf::Number(_))

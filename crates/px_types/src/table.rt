@@ -6,14 +6,16 @@ ghost use Rattle.px_types.specs.Keys.{base_index};
 
 use px_tables::{Heap, Tables};
 
-/// The numbers of the tables that are read.
+/// The number of the table TypeRef.
 pub const TYPE_REFS: u8 = 0x01;
 
+/// The number of the table TypeDef.
 pub const TYPE_DEFS: u8 = 0x02;
 
+/// The number of the table Field.
 pub const FIELDS: u8 = 0x04;
 
-// The number in a column of a row.
+/// The number in a column of a row.
 pub fn cell_of(tables: &Tables, table: u8, row: u32, column: usize) -> u32
     requires row { IsRow tables.now table row }
     requires column { column < 9 }
@@ -22,7 +24,7 @@ pub fn cell_of(tables: &Tables, table: u8, row: u32, column: usize) -> u32
     tables.row(table, row).cells[column]
 }
 
-// A number as a row of a table that has it.
+/// A number as a row of a table that has it.
 pub fn some_row(tables: &Tables, table: u8, row: u32) -> Option<u32>
     ensures { result ≡ some_row tables.now table row }
 {
@@ -47,7 +49,7 @@ fn up_to_zero(bytes: &[u8]) -> &[u8]
     }
 }
 
-// The bytes of the text at a place of the strings.
+/// The bytes of the text at a place of the strings.
 pub fn text_at<'a>(tables: &Tables<'a>, at: u32) -> &'a [u8]
     ensures { result.now ≡ text_at tables.now at }
 {

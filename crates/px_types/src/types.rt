@@ -121,8 +121,8 @@ impl<'m, 'a> Types<'m, 'a> {
         tables
     }
 
-    // What has numbers, in their order.
-    pub(crate) fn keys(&self) -> &[Key]
+    /// What has numbers, in their order.
+    pub fn keys(&self) -> &[Key]
         ensures keys { result.now ≡ self.now.keys }
         ensures kept { IsKept self.now.tables self.now.keys }
     {

@@ -4,6 +4,6 @@ use Rattle.px_link.specs.declared.fault.LinkFault.{LinkFault}
 use Rattle.pex.proofs.method.unlinked.Goals as goal
 
 pub returns-in-BadBody : goal.returns-in-BadBody
-returns-in-BadBody c = λ v image name blames.
+returns-in-BadBody c = λ v image name text blames.
     let Is : LinkFault → Type 0 = λ fault. Blames v image name fault in
-    c.bad_body.ensures v image name c.args.text.now (subst Is c.in-BadBody.is blames)
+    c.bad_body.ensures v image name text (subst Is c.in-BadBody.is blames)

@@ -1,0 +1,86 @@
+-- What the rows of a program's methods say of its bodies.
+use Rattle.std.proofs.Common.{◌≡◌, ◌≢◌, ℕ, suc, Bool, true, false, List, [], ◌∷◌, Some, length, refl, ap, subst, inl, inr, arith}
+use Rattle.std.specs.Prelude.{◌==◌, ◌<◌, if◌then◌else◌, slice_get, slice_index_or}
+use Rattle.std.specs.List.{AllByRecursion, AllPairs, AllZip, IsDistinct, flat_map}
+use Rattle.std.proofs.lemmas.Bool.{eq-eqb, eqb-true, ne_eqb, or_cases, or_left, or_right}
+use Rattle.px_code.specs.declared.body.RawInstr.{RawInstr}
+use Rattle.px_meta.specs.Rows.{IsRow, methods}
+use Rattle.px_pe.specs.Image as pe
+use Rattle.px_program.proofs.Types.{each-append}
+use Rattle.px_types.proofs.Closed.{each-back}
+use Rattle.px_tables.specs.Metadata.{View}
+use Rattle.px_reach.specs.Met.{IsBody, IsOwned, IsReached, is_in, target_of, with_overriders}
+use Rattle.px_reach.proofs.Reaching.{calls_met, overriders_met, rows_apart}
+use Rattle.px_reach.specs.Overriders.{overriders_in}
+use Rattle.px_reach.specs.declared.body.Whole.{Whole}
+use Rattle.px_reach.specs.declared.methods.Reached.{Reached}
+
+-- LISTS
+
+zip_length : {X Y : Type 0} (R : X → Y → Type 0) (xs : List X) (ys : List Y) → AllZip R xs ys → length ys ≡ length xs
+zip_length R [] [] all = refl
+zip_length R [] (y ∷ ys) all = absurd all
+zip_length R (x ∷ xs) [] all = absurd all
+zip_length R (x ∷ xs) (y ∷ ys) all = ap suc (zip_length R xs ys all.1)
+
+each_unlike : (row : ℕ) (rows : List ℕ) → ((j d : ℕ) → j < length rows → row ≢ slice_index_or rows j d) → AllByRecursion (λ other. (row == other) ≡ false) rows
+each_unlike row [] apart = tt
+each_unlike row (other ∷ rows) apart = (ne_eqb row other (apart 0 0 (omega arith)), each_unlike row rows (λ j d less. apart (suc j) d (omega arith)))
+
+distinct_by : (rows : List ℕ) → AllPairs ◌≢◌ rows → IsDistinct (λ row other. row == other) rows
+unfolding IsDistinct
+distinct_by [] apart = tt
+distinct_by (row ∷ rows) apart =
+    (each_unlike row rows (λ j d less. apart 0 (suc j) d (omega arith) (omega arith)), distinct_by rows (λ i j d less within. apart (suc i) (suc j) d (omega arith) (omega arith)))
+
+each_in : (P : ℕ → Type 0) (rows : List ℕ) (row : ℕ) → AllByRecursion P rows → is_in rows row ≡ true → P row
+each_in P [] row each is = absurd (cc)
+each_in P (other ∷ rows) row each is = elim (or_cases (other == row) (is_in rows row) is) [
+  | inl same ↦ subst P (eqb-true other row same) each.0
+  | inr later ↦ each_in P rows row each.1 later
+]
+
+each_self : (P : ℕ → Type 0) (rows : List ℕ) → ((row : ℕ) → is_in rows row ≡ true → P row) → AllByRecursion P rows
+each_self P [] each = tt
+each_self P (row ∷ rows) each =
+    (each row (or_left (row == row) (is_in rows row) (eq-eqb row row refl)), each_self P rows (λ other is. each other (or_right (row == other) (is_in rows other) is)))
+
+-- WHAT BODIES NAME
+
+named_by : (P : ℕ → Type 0) (lists : List (List ℕ)) (rows : List ℕ) → AllByRecursion P (flat_map (with_overriders lists) rows) → AllByRecursion P rows
+named_by P lists [] each = tt
+named_by P lists (row ∷ rows) each = (each.0, named_by P lists rows (each-back P (overriders_in lists row) (flat_map (with_overriders lists) rows) each.1))
+
+target_by : (P : ℕ → Type 0) (lists : List (List ℕ)) (rows : List ℕ) (virtual : Bool) → AllByRecursion P (if virtual then flat_map (with_overriders lists) rows else rows) → AllByRecursion P rows
+target_by P lists rows true each = named_by P lists rows each
+target_by P lists rows false each = each
+
+targets_of : (v : View) (P : ℕ → Type 0) (code : List RawInstr) → ((j : ℕ) (raw : RawInstr) → slice_get code j ≡ Some raw → AllByRecursion P (target_of v raw)) → AllByRecursion P (flat_map (target_of v) code)
+targets_of v P [] each = tt
+targets_of v P (raw ∷ code) each = each-append P (target_of v raw) (flat_map (target_of v) code) (each 0 raw refl) (targets_of v P code (λ j other at. each (suc j) other at))
+
+each_body : (v : View) (image : pe.View) (Q : Whole → Type 0) (rows : List ℕ) (bodies : List Whole) → AllZip (IsBody v image) rows bodies
+    → ((k row : ℕ) (whole : Whole) → slice_get rows k ≡ Some row → IsBody v image row whole → Q whole) → AllByRecursion Q bodies
+each_body v image Q [] [] are each = tt
+each_body v image Q [] (whole ∷ bodies) are each = absurd are
+each_body v image Q (row ∷ rows) [] are each = absurd are
+each_body v image Q (row ∷ rows) (whole ∷ bodies) are each = (each 0 row whole refl are.0, each_body v image Q rows bodies are.1 (λ k other body at is. each (suc k) other body at is))
+
+-- AS THEY ARE READ
+
+pub as_many : (v : View) (image : pe.View) (lists : List (List ℕ)) (starts : List ℕ) (reached : Reached) → IsReached v image lists starts reached → length reached.bodies ≡ length reached.rows
+as_many v image lists starts reached is = zip_length (IsBody v image) reached.rows reached.bodies is.bodies
+
+pub distinct : (v : View) (image : pe.View) (lists : List (List ℕ)) (starts : List ℕ) (reached : Reached) → IsReached v image lists starts reached → IsDistinct (λ row other. row == other) reached.rows
+distinct v image lists starts reached is = distinct_by reached.rows (rows_apart is)
+
+pub targets_in : (v : View) (image : pe.View) (lists : List (List ℕ)) (starts : List ℕ) (reached : Reached) → IsReached v image lists starts reached
+    → AllByRecursion (λ (whole : Whole). AllByRecursion (λ row. is_in reached.rows row ≡ true) (flat_map (target_of v) whole.body.code)) reached.bodies
+targets_in v image lists starts reached is =
+    let In : ℕ → Type 0 = λ row. is_in reached.rows row ≡ true in
+    each_body v image (λ whole. AllByRecursion In (flat_map (target_of v) whole.body.code)) reached.rows reached.bodies is.bodies
+    (λ k row whole at body. targets_of v In whole.body.code (λ j raw instr. target_by In lists (target_of v raw) (raw.opcode == 0x6F) (calls_met is k row whole j raw at body.read instr)))
+
+pub virtual_rows : (v : View) (image : pe.View) (lists : List (List ℕ)) (starts : List ℕ) (reached : Reached) → IsReached v image lists starts reached → AllByRecursion (IsOwned v) reached.rows → AllByRecursion (IsRow v methods) reached.virtual_targets
+virtual_rows v image lists starts reached is owned =
+    each_self (IsRow v methods) reached.virtual_targets (λ target there. (each_in (IsOwned v) reached.rows target owned (overriders_met is target there).0).row)

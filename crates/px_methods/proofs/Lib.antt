@@ -1,0 +1,5 @@
+pub mod Added
+pub mod Named
+pub mod Numbered
+pub mod Pieces
+pub mod Standing

@@ -1,0 +1,4 @@
+pub mod Codes
+pub mod Methods
+pub mod Parts
+pub mod Slots

@@ -1,0 +1,28 @@
+//! What the tokens of instructions name in an assembly: Partition II, 22, and Partition III, 1.9.
+#![tactic(auto)]
+
+mod callees;
+mod checks;
+mod constructors;
+mod elements;
+mod fields;
+mod initialisers;
+mod integers;
+mod known;
+mod member;
+mod methods;
+#[cfg(test)]
+mod name_tests;
+mod names;
+mod operand;
+mod owned;
+mod references;
+mod rows;
+mod scopes;
+#[cfg(test)]
+mod tests;
+mod texts;
+mod tokens;
+
+pub use operand::Operand;
+pub use tokens::Tokens;

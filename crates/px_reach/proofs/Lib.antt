@@ -1,0 +1,9 @@
+pub mod Adding
+pub mod Chains
+pub mod Keeping
+pub mod Listing
+pub mod Owned
+pub mod Reaching
+pub mod Sets
+pub mod Sorting
+pub mod Stepping

@@ -1,0 +1,17 @@
+//! The methods that a program has: all that calls and overriding reach from those that it starts with.
+#![tactic(auto)]
+
+mod body;
+mod found;
+mod methods;
+mod order;
+mod overriding;
+#[cfg(test)]
+mod overriding_tests;
+mod parents;
+#[cfg(test)]
+mod tests;
+
+pub use body::Whole;
+pub use methods::{ReachFault, Reached, reach};
+pub use overriding::Overriding;
