@@ -1,16 +1,7 @@
 #!/usr/bin/env bash
 # Refuses each allocation of a run in turn: the program writes its whole text with its own status, or nothing with status 8.
 # Run `rt ci` first: it leaves the program at crates/pex/out/pex. It needs a C compiler, `cc`.
-set -euo pipefail
-cd "$(dirname "$0")/.."
-program="$PWD/crates/pex/out/pex"
-if [ ! -x "$program" ]; then
-  echo "no program at crates/pex/out/pex: run rt ci first" >&2
-  exit 1
-fi
-folder=$(mktemp -d)
-trap 'rm -rf "$folder"' EXIT
-cd "$folder"
+. "$(dirname "$0")/program.sh" pex
 cat > refuse.c <<'C'
 #include <stdio.h>
 #include <stdlib.h>

@@ -1,16 +1,7 @@
 #!/usr/bin/env bash
 # The time and the peak memory of the built program on a made assembly of about 4 MB with 60,000 methods in 6,000 types, of which one is explored, and of one
 # whose METHOD isn't there. Run `rt ci` first: it leaves the program at crates/pex/out/pex.
-set -euo pipefail
-cd "$(dirname "$0")/.."
-program="$PWD/crates/pex/out/pex"
-if [ ! -x "$program" ]; then
-  echo "no program at crates/pex/out/pex: run rt ci first" >&2
-  exit 1
-fi
-folder=$(mktemp -d)
-trap 'rm -rf "$folder"' EXIT
-cd "$folder"
+. "$(dirname "$0")/program.sh" pex
 python3 - > /dev/null <<'PY'
 import struct
 

@@ -1,13 +1,7 @@
 #!/usr/bin/env bash
 # The time of the built program px_bench on a refutation of 100,000 and 1,000,000 steps of resolution over clauses of ten literals: the formula is made
 # and the chain is checked. Run `rt ci` first: it leaves the program at crates/px_bench/out/px_bench.
-set -euo pipefail
-cd "$(dirname "$0")/.."
-program="$PWD/crates/px_bench/out/px_bench"
-if [ ! -x "$program" ]; then
-  echo "no program at crates/px_bench/out/px_bench: run rt ci first" >&2
-  exit 1
-fi
+. "$(dirname "$0")/program.sh" px_bench
 for steps in 100000 1000000; do
   python3 - "$program" "$steps" <<'PY'
 import resource, subprocess, sys, time

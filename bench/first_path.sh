@@ -1,16 +1,7 @@
 #!/usr/bin/env bash
 # The time and the peak memory of the built program on domains of 10, 100 and 1,000 tuples.
 # Run `rt ci` first: it leaves the program at crates/pex/out/pex.
-set -euo pipefail
-cd "$(dirname "$0")/.."
-program="$PWD/crates/pex/out/pex"
-if [ ! -x "$program" ]; then
-  echo "no program at crates/pex/out/pex: run rt ci first" >&2
-  exit 1
-fi
-folder=$(mktemp -d)
-trap 'rm -rf "$folder"' EXIT
-cd "$folder"
+. "$(dirname "$0")/program.sh" pex
 # ldarg.0, ldc.i4.7, beq.s, ldc.i4.0, ret, ldc.i4.1, ret
 printf '\x22\x02\x1D\x2E\x02\x16\x2A\x17\x2A' > equal.bin
 for tuples in 10 100 1000; do

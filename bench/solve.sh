@@ -1,15 +1,7 @@
 #!/usr/bin/env bash
 # The time of the built program px_bench on random formulas of three literals a clause, beside MiniSat's on the same formulas where it is installed.
 # Run `rt ci` first: it leaves the program at crates/px_bench/out/px_bench.
-set -euo pipefail
-cd "$(dirname "$0")/.."
-program="$PWD/crates/px_bench/out/px_bench"
-if [ ! -x "$program" ]; then
-  echo "no program at crates/px_bench/out/px_bench: run rt ci first" >&2
-  exit 1
-fi
-folder=$(mktemp -d)
-trap 'rm -rf "$folder"' EXIT
+. "$(dirname "$0")/program.sh" px_bench
 for variables in 20 40 60; do
   "$program" dimacs "$variables" > "$folder/formula.cnf"
   python3 - "$program" "$variables" "$folder/formula.cnf" <<'PY'

@@ -12,7 +12,7 @@ ghost use Rattle.pex.specs.Parts.{IsReading};
 
 use crate::answer::{Answer, Refusal};
 use px_domain::{DomainFault, read_domain};
-use px_program::{Method, Place, Program};
+use px_program::{Layout, Method, Place, Program};
 use sqlite_items::Items;
 use std::alloc::{AllocError, Global};
 
@@ -102,6 +102,7 @@ fn bare_program(alloc: Global, params: &[Place]) -> Result<Program, AllocError>
         methods,
         entry: 0,
         maker: None,
+        layout: Layout::empty(alloc),
     })
 }
 

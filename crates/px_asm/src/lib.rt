@@ -1,21 +1,21 @@
-//! Writes images and metadata that are read as they were written: Partition II, 24 and 25.
+//! Writes programs as assemblies from which they are linked again: Partition II, 22 to 25.
 #![tactic(auto)]
 
-mod columns;
-mod content;
-mod field;
-mod fits;
-mod headers;
-mod image;
-mod metadata;
-#[cfg(test)]
-mod metadata_tests;
-mod part;
-mod root;
+mod assembly;
+mod bodies;
+mod fields;
+mod methods;
+mod overriding;
+mod places;
 mod rows;
+mod spelled;
+mod store;
+mod tables;
 #[cfg(test)]
 mod tests;
+mod tokens;
+mod types;
+mod whole;
 
-pub use content::Content;
-pub use image::write_image;
-pub use metadata::write_metadata;
+pub use assembly::write_assembly;
+pub use whole::runs_whole;

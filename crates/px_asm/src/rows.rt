@@ -1,98 +1,142 @@
-// The stream of the tables: Partition II, 24.2.6.
-ghost use Rattle.std.specs.Prelude.{◌≡◌, ℕ, ◌+◌, ◌<◌, ◌≤◌, ◌++◌, ◌^◌, [], IfOk, OnOk, length, slice_index_or};
-ghost use Rattle.px_asm.specs.Layout.{counts_of};
-ghost use Rattle.px_asm.specs.Metadata.{count_bytes, count_of, mask_of, row_bytes, table_bytes, tables_stream};
+// The rows that types, fields and methods have where a program is written.
+ghost use Rattle.std.specs.Prelude.{◌≡◌, ◌+◌, ◌<◌, ◌≤◌, ◌^◌, ◌==◌, Some, true, length, IfOk, OnOk};
+ghost use Rattle.std.specs.List.{AllByRecursion, IsDistinct};
+ghost use Rattle.px_methods.specs.Codes.{place_of};
+ghost use Rattle.px_reach.specs.Met.{is_in};
+ghost use Rattle.px_relink.specs.Describes.{method_row, type_row};
+ghost use Rattle.px_relink.specs.Writable.{IsWritable};
+ghost use Rattle.px_asm.specs.Kept.{HasRows, first_field_of};
+ghost use Rattle.px_asm.specs.Rows.{HasRoom, IsLaid};
+ghost use Rattle.px_asm.specs.Tokens.{fields_in, fields_of, first_field};
 
-use crate::columns::push_row;
-use crate::part::push_number;
-use px_tables::{Counts, Row};
-use sqlite_items::Items;
+use px_program::{Program, TypeInfo};
 use std::alloc::{AllocError, Global};
+use std::marker::Model;
 
-// Version 2.0, and all indexes of heaps are wide.
-static HEAD: [u8; 8] = [0, 0, 0, 0, 2, 0, 7, 1];
+// A table that tokens have room for has fewer rows.
+const MOST_ROWS: usize = 0x80_0000;
 
-/// What the header says of the tables.
-pub fn counts_of(tables: &[Items<Row>]) -> Counts
-    requires tables { length tables.now ≤ 64 }
-    requires rows { (table : ℕ) → length (slice_index_or tables.now table []) < 2 ^ 24 }
-    ensures { result ≡ counts_of tables.now }
+// The rows of some numbers, from a first row on, by number. The row of another number is 0.
+fn rows_of(alloc: Global, count: usize, numbers: &[u32], first: u32) -> Result<Vec<u32>, AllocError>
+    requires below { AllByRecursion (λ number. number < count) numbers.now }
+    requires once { IsDistinct (λ number other. number == other) numbers.now }
+    requires few { length numbers.now + first < 2 ^ 32 }
+    ensures { IfOk result (λ rows. HasRows (λ number. is_in numbers.now number ≡ true) (λ number. place_of numbers.now number + first) rows.items) }
 {
-    let mut rows = [0; 64];
-    for (table, listed) in tables.iter().enumerate() {
-        rows[table] = listed.len() as u32;
+    let mut rows = vec![in alloc; 0; count]?;
+    let mut row = first;
+    for number in numbers {
+        rows[*number as usize] = row;
+        row += 1;
     }
-    Counts {
-        heap_sizes: 7,
-        rows,
-    }
+    Ok(rows)
 }
 
-// The mask of the tables that have rows.
-fn mask_of(tables: &[Items<Row>]) -> u64
-    requires { length tables.now ≤ 64 }
-    ensures { result ≡ mask_of tables.now }
+// The row behind the fields of a type, of which the first has this row.
+fn behind_fields(first: u32, info: &TypeInfo) -> Result<u32, AllocError>
+    ensures behind { IfOk result (λ row. row ≡ first + length (fields_in (Some info.now))) }
+    ensures few { IfOk result (λ row. row ≤ 2 ^ 23) }
 {
-    let mut mask = 0;
-    for (table, rows) in tables.iter().enumerate() {
-        mask += u64::from(!rows.is_empty()) << table;
+    let count = info.fields.len().saturating_add(info.statics.len());
+    let row = count.saturating_add(first as usize);
+    if row > MOST_ROWS {
+        return Err(AllocError);
     }
-    mask
+    Ok(row as u32)
 }
 
-// The count of a table, if it has rows.
-fn push_count(out: &mut Vec<u8>, rows: &[Row]) -> Result<(), AllocError>
-    requires { length rows.now < 2 ^ 24 }
-    ensures { OnOk result (out.new.items ≡ out.old.items ++ count_of rows.now) }
+// The row of the first field of each type of the assembly, by the type's number.
+fn first_fields(alloc: Global, program: &Program) -> Result<Vec<u32>, AllocError>
+    requires { IsWritable program.now }
+    ensures few { OnOk result (length (fields_of program.now program.now.layout.types) < 2 ^ 23) }
+    ensures rows { IfOk result (λ rows. HasRows (IsLaid program.now) (first_field_of program.now) rows.items) }
 {
-    if rows.is_empty() {
-        return Ok(());
+    let types = program.types.as_slice();
+    let mut rows = vec![in alloc; 0; types.len()]?;
+    let mut row = 1;
+    for number in program.layout.types.as_slice() {
+        let type_index = *number as usize;
+        rows[type_index] = row;
+        row = behind_fields(row, &types[type_index])?;
     }
-    push_number(out, 4, rows.len() as u32)
+    Ok(rows)
 }
 
-// The counts of the tables that have rows.
-fn push_counts(out: &mut Vec<u8>, tables: &[Items<Row>]) -> Result<(), AllocError>
-    requires { (table : ℕ) → length (slice_index_or tables.now table []) < 2 ^ 24 }
-    ensures { OnOk result (out.new.items ≡ out.old.items ++ count_bytes tables.now) }
-{
-    for rows in tables {
-        push_count(out, rows.as_slice())?;
-    }
-    Ok(())
+/// A program that is written, with the rows of its types by their numbers, of its methods, and of the first field of each type.
+#[derive(Drop)]
+pub struct Rows<'p> {
+    program: &'p Program,
+    types: Vec<u32>,
+    methods: Vec<u32>,
+    fields: Vec<u32>,
 }
 
-// The rows of a table.
-fn push_rows(out: &mut Vec<u8>, counts: &Counts, table: u8, rows: &[Row]) -> Result<(), AllocError>
-    ensures { OnOk result (out.new.items ≡ out.old.items ++ row_bytes counts.now table rows.now) }
-{
-    for row in rows {
-        push_row(out, counts, table, row)?;
-    }
-    Ok(())
+impl<'p> Model for Rows<'p> {
+    ghost use Rattle.px_program.specs.declared.program.Program.{Program};
+    ghost use Rattle.px_asm.specs.Kept.{AreKept};
+
+    ghost Value = { Program };
+
+    ghost view = { λ r. r.program.now };
+
+    ghost invariant = { λ r. AreKept r.program.now r.types.items r.methods.items r.fields.items };
 }
 
-// The rows of all tables.
-fn push_tables(out: &mut Vec<u8>, counts: &Counts, tables: &[Items<Row>]) -> Result<(), AllocError>
-    requires { length tables.now ≤ 64 }
-    ensures { OnOk result (out.new.items ≡ out.old.items ++ table_bytes counts.now 0 tables.now) }
-{
-    for (table, rows) in tables.iter().enumerate() {
-        push_rows(out, counts, table as u8, rows.as_slice())?;
+impl<'p> Rows<'p> {
+    /// The rows of a program. One with 2^23 types, methods or fields, which tokens have no room for, is answered as want of memory.
+    pub fn new(alloc: Global, program: &'p Program) -> Result<Rows<'p>, AllocError>
+        requires { IsWritable program.now }
+        ensures { IfOk result (λ rows. rows ≡ program.now) }
+    {
+        let types_count = program.types.len();
+        let methods_count = program.methods.len();
+        if types_count >= MOST_ROWS || methods_count >= MOST_ROWS {
+            return Err(AllocError);
+        }
+        // the first row of TypeDef is that of `<Module>`
+        let types = rows_of(alloc, types_count, program.layout.types.as_slice(), 2)?;
+        let methods = rows_of(alloc, methods_count, program.layout.methods.as_slice(), 1)?;
+        let fields = first_fields(alloc, program)?;
+        Ok(Rows {
+            program,
+            types,
+            methods,
+            fields,
+        })
     }
-    Ok(())
-}
 
-/// The stream of the tables: its header, the counts and the rows.
-pub fn tables_stream(alloc: Global, tables: &[Items<Row>]) -> Result<Vec<u8>, AllocError>
-    requires tables { length tables.now ≤ 64 }
-    requires rows { (table : ℕ) → length (slice_index_or tables.now table []) < 2 ^ 24 }
-    ensures { IfOk result (λ bytes. bytes.items ≡ tables_stream tables.now) }
-{
-    let mut out = Vec::from_slice(alloc, &HEAD)?;
-    out.extend_from_slice(&mask_of(tables).to_le_bytes())?;
-    out.extend_from_slice(&[0; 8])?;
-    push_counts(&mut out, tables)?;
-    push_tables(&mut out, &counts_of(tables), tables)?;
-    Ok(out)
+    /// The program.
+    pub fn program(&self) -> &'p Program
+        ensures same { result.now ≡ self.now }
+        ensures room { HasRoom self.now }
+    {
+        self.program
+    }
+
+    /// The row of a type of the assembly in TypeDef.
+    pub fn type_row(&self, number: u32) -> u32
+        requires { IsLaid self.now number }
+        ensures row { result ≡ type_row self.now number }
+        ensures few { result < 2 ^ 24 }
+    {
+        self.types[number as usize]
+    }
+
+    /// The row of a method in MethodDef.
+    pub fn method_row(&self, number: u32) -> u32
+        requires { number < length self.now.methods }
+        ensures row { result ≡ method_row self.now number }
+        ensures few { result < 2 ^ 24 }
+    {
+        self.methods[number as usize]
+    }
+
+    /// The row of the first field of a type of the assembly: those of instances come first, and then the static ones.
+    pub fn first_field(&self, number: u32) -> u32
+        requires { IsLaid self.now number }
+        ensures row { result ≡ first_field self.now (place_of self.now.layout.types number) }
+        ensures few { result < 2 ^ 24 }
+    {
+        self.fields[number as usize]
+    }
 }

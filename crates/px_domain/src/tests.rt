@@ -5,7 +5,7 @@ ghost use Rattle.px_program.specs.Formed.{IsInteger};
 ghost use Rattle.px_domain.specs.Domain.{params_of};
 
 use crate::{Domain, DomainFault, Part, read_domain};
-use px_program::{Method, Place, Program};
+use px_program::{Layout, Method, Place, Program};
 use sqlite_items::Items;
 use std::alloc::{AllocError, Global};
 use std::process::Abort;
@@ -33,6 +33,7 @@ fn program_of(alloc: Global, places: &[Place]) -> Result<Program, AllocError>
         methods: Items::from_vec(methods),
         entry: 0,
         maker: None,
+        layout: Layout::empty(alloc),
     })
 }
 

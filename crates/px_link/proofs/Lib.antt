@@ -18,6 +18,8 @@ pub mod Making
 pub mod Naming
 pub mod Overriding
 pub mod Places
+pub mod Placing
 pub mod Reached
 pub mod ReadsFormed
+pub mod Slots
 pub mod Typed

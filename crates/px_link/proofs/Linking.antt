@@ -6,6 +6,7 @@ use Rattle.std.specs.List.{AllByRecursion}
 use Rattle.px_methods.specs.Methods.{AreMethods, met_by_all}
 use Rattle.px_pe.specs.Image as pe
 use Rattle.px_program.specs.Formed.{IsWellFormed}
+use Rattle.px_program.specs.declared.program.Layout.{Layout}
 use Rattle.px_program.specs.declared.program.Method.{Method}
 use Rattle.px_program.specs.declared.program.Program.{Program}
 use Rattle.px_program.specs.declared.program.TypeInfo.{TypeInfo}
@@ -20,17 +21,18 @@ use Rattle.px_tables.specs.Metadata.{View}
 use Rattle.px_types.proofs.Closed.{grows}
 use Rattle.px_types.specs.Numbers.{Numbers, is_numbered, library_keys}
 use Rattle.px_types.specs.declared.key.Key.{Key}
+use Rattle.px_link.specs.Layout.{IsLayout}
 use Rattle.px_link.specs.Link.{Blames, arguments_of, maker_number, rows_of}
 use Rattle.px_link.specs.Parts.{HasTypes, IsEntryOf, IsLinked, fault_of}
 use Rattle.px_link.specs.declared.entry.Entry.{Entry}
 use Rattle.px_link.proofs.Assembly.{few, well_formed}
 
-pub linked_by : (v : View) (image : pe.View) (name : List ℕ) (entry : Entry) (lists : List (List ℕ)) (reached : Reached) (keys : List Key) (types : List TypeInfo) (methods : List Method) (maker : Option ℕ)
+pub linked_by : (v : View) (image : pe.View) (name : List ℕ) (entry : Entry) (lists : List (List ℕ)) (reached : Reached) (keys : List Key) (types : List TypeInfo) (methods : List Method) (maker : Option ℕ) (layout : Layout)
     → IsEntryOf v name entry → AreLists v lists → IsReached v image lists (entry.method ∷ rows_of entry.maker) reached → Numbers v library_keys (met_by_all v reached.rows reached.bodies) keys
     → HasTypes v (record { keys = keys; rows = reached.rows }) lists reached.virtual_targets types → AreMethods v (record { keys = keys; rows = reached.rows }) reached.bodies methods
-    → maker ≡ maker_number reached.rows entry.maker → length reached.rows < 2 ^ 32 → AllByRecursion (IsOwned v) reached.rows
-    → IsLinked v image name (record { types = types; methods = methods; entry = 0; maker = maker })
-linked_by v image name entry lists reached keys types methods maker is are_lists is_reached numbers typed made maker_is few owned = record {
+    → maker ≡ maker_number reached.rows entry.maker → IsLayout v (record { keys = keys; rows = reached.rows }) layout → length reached.rows < 2 ^ 32 → AllByRecursion (IsOwned v) reached.rows
+    → IsLinked v image name (record { types = types; methods = methods; entry = 0; maker = maker; layout = layout })
+linked_by v image name entry lists reached keys types methods maker layout is are_lists is_reached numbers typed made maker_is laid few owned = record {
   reads = record {
     method = entry.method;
     sig = is.sig;
@@ -45,6 +47,7 @@ linked_by v image name entry lists reached keys types methods maker is are_lists
     methods = made;
     entry_is = refl;
     maker_is = maker_is ∙ ap (maker_number reached.rows) is.maker;
+    layout = laid;
   };
   formed = typed.formed;
   few = few;
@@ -59,16 +62,16 @@ as_read reached rows bodies targets r b t =
     ap with_rows (sym r) ∙ ap with_bodies (sym b) ∙ ap with_targets (sym t)
 
 -- the same by what was lent of the rows, the bodies and the virtual targets
-pub linked_from : (v : View) (image : pe.View) (name : List ℕ) (entry : Entry) (lists : List (List ℕ)) (reached : Reached) (rows : List ℕ) (bodies : List Whole) (targets : List ℕ) (keys : List Key) (types : List TypeInfo) (methods : List Method) (maker : Option ℕ)
+pub linked_from : (v : View) (image : pe.View) (name : List ℕ) (entry : Entry) (lists : List (List ℕ)) (reached : Reached) (rows : List ℕ) (bodies : List Whole) (targets : List ℕ) (keys : List Key) (types : List TypeInfo) (methods : List Method) (maker : Option ℕ) (layout : Layout)
     → rows ≡ reached.rows → bodies ≡ reached.bodies → targets ≡ reached.virtual_targets
     → IsEntryOf v name entry → AreLists v lists → IsReached v image lists (entry.method ∷ rows_of entry.maker) reached → Numbers v library_keys (met_by_all v rows bodies) keys
     → HasTypes v (record { keys = keys; rows = rows }) lists targets types → AreMethods v (record { keys = keys; rows = rows }) bodies methods
-    → maker ≡ maker_number rows entry.maker → length reached.rows < 2 ^ 32 → AllByRecursion (IsOwned v) reached.rows
-    → IsLinked v image name (record { types = types; methods = methods; entry = 0; maker = maker })
-linked_from v image name entry lists reached rows bodies targets keys types methods maker r b t is are_lists is_reached numbers typed made maker_is few owned =
+    → maker ≡ maker_number rows entry.maker → IsLayout v (record { keys = keys; rows = rows }) layout → length reached.rows < 2 ^ 32 → AllByRecursion (IsOwned v) reached.rows
+    → IsLinked v image name (record { types = types; methods = methods; entry = 0; maker = maker; layout = layout })
+linked_from v image name entry lists reached rows bodies targets keys types methods maker layout r b t is are_lists is_reached numbers typed made maker_is laid few owned =
     let lent : Reached = record { rows = rows; bodies = bodies; virtual_targets = targets } in
-    linked_by v image name entry lists lent keys types methods maker is are_lists
-    (subst (λ x. IsReached v image lists (entry.method ∷ rows_of entry.maker) x) (as_read reached rows bodies targets r b t) is_reached) numbers typed made maker_is
+    linked_by v image name entry lists lent keys types methods maker layout is are_lists
+    (subst (λ x. IsReached v image lists (entry.method ∷ rows_of entry.maker) x) (as_read reached rows bodies targets r b t) is_reached) numbers typed made maker_is laid
     (subst (λ rs. length rs < 2 ^ 32) (sym r) few) (subst (AllByRecursion (IsOwned v)) (sym r) owned)
 
 pub met_numbered : (v : View) (from met keys : List Key) → Numbers v from met keys → AllByRecursion (λ key. is_numbered keys key ≡ true) met

@@ -29,6 +29,7 @@ use Rattle.px_types.specs.Numbers.{Numbers, library_keys}
 use Rattle.px_types.specs.declared.key.Key.{Key}
 use Rattle.px_link.specs.declared.fault.LinkFault.{LinkFault}
 use Rattle.px_link.specs.declared.fault.LinkFault.TheVariants as faults
+use Rattle.px_link.specs.Layout.{IsLayout}
 use Rattle.px_link.specs.Names.{IsNamed, IsOnly}
 use Rattle.px_link.specs.Overrides.{AreLinkedTypes}
 
@@ -120,7 +121,8 @@ pub record IsEntry (v : View) (name : List ℕ) (method : ℕ) (sig : MethodSig)
 abbrev pub starts_of : View → ℕ → MethodSig → List ℕ
 starts_of v method sig = method ∷ rows_of (maker_of v method sig)
 
--- The program is that of the method of this name: with its maker and all methods that calls and overriding reach, and all types that these meet.
+-- The program is that of the method of this name: with its maker and all methods that calls and overriding reach, all types that these meet, and how the
+-- assembly has them.
 pub record Reads (v : View) (image : pe.View) (name : List ℕ) (program : Program) : Type 0 where
   pub method : ℕ
   pub sig : MethodSig
@@ -135,6 +137,7 @@ pub record Reads (v : View) (image : pe.View) (name : List ℕ) (program : Progr
   pub methods : AreMethods v (record { keys = keys; rows = reached.rows }) reached.bodies program.methods
   pub entry_is : program.entry ≡ 0
   pub maker_is : program.maker ≡ maker_number reached.rows (maker_of v method sig)
+  pub layout : IsLayout v (record { keys = keys; rows = reached.rows }) program.layout
 
 -- THE ARGUMENTS
 

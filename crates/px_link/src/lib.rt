@@ -3,6 +3,7 @@
 
 mod entry;
 mod fault;
+mod layout;
 #[cfg(test)]
 mod link_tests;
 mod linked;

@@ -374,3 +374,28 @@ fn links_overrides(rt: HostRuntime) {
         }
     }
 }
+
+// By row the types are Base, Derived and App, and the methods .ctor and M of Base, those of Derived, and Run.
+#[test]
+fn lays_out_what_is_linked(rt: HostRuntime) {
+    match linked(&rt, &assembly(&SHOP_PARTS, &[]), "Shop.App::Run") {
+        Ok(program) => {
+            let layout = &program.layout;
+            assert_eq!(rt; layout.types.as_slice(), [20, 19, 18].as_slice());
+            assert_eq!(rt; layout.methods.as_slice(), [4, 2, 1, 3, 0].as_slice());
+            let wanted = [
+                (false, None),
+                (false, None),
+                (true, None),
+                (true, Some(2)),
+                (false, None),
+            ];
+            assert_eq!(rt; layout.slots.len(), 5);
+            for (slot, (is_virtual, overridden)) in layout.slots.as_slice().iter().zip(&wanted) {
+                assert_eq!(rt; slot.is_virtual, *is_virtual);
+                assert_eq!(rt; slot.overridden, *overridden);
+            }
+        }
+        Err(fault) => panic!(rt; "{fault:?}"),
+    }
+}

@@ -12,6 +12,7 @@ ghost use Rattle.px_link.specs.Parts.{IsEntryOf, IsLinked, IsReachedFrom, fault_
 
 use crate::LinkFault;
 use crate::entry::{Entry, find_entry};
+use crate::layout::layout_of;
 use crate::overrides::types_of;
 use px_code::BodyFault;
 use px_meta::Meta;
@@ -102,11 +103,13 @@ fn program_of(
     let types = types_met(alloc, tokens, rows, bodies)?;
     let infos = types_of(alloc, tokens.meta(), overriding, &types, rows, targets)?;
     let methods = methods_of(alloc, tokens, &types, rows, bodies)?;
+    let layout = layout_of(alloc, tokens.meta(), &types, rows)?;
     Ok(Program {
         types: Items::from_vec(infos),
         methods: Items::from_vec(methods),
         entry: 0,
         maker: maker_number(rows, entry.maker),
+        layout,
     })
 }
 

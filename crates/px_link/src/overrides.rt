@@ -94,7 +94,7 @@ fn nearest(meta: &Meta, chain: &[u32], overriders: &[u32]) -> Option<u32>
 }
 
 // Rows by their places.
-fn numbers_of(alloc: Global, rows: &[u32]) -> Result<IndexSet<u32>, AllocError>
+pub(crate) fn numbers_of(alloc: Global, rows: &[u32]) -> Result<IndexSet<u32>, AllocError>
     requires { IsDistinct (λ row other. row == other) rows.now }
     ensures { IfOk result (λ numbers. numbers.keys ≡ rows.now) }
 {

@@ -139,7 +139,6 @@ pub fn methods_of(
     rows: &[u32],
     bodies: &[Whole],
 ) -> Result<Vec<Method>, AllocError>
-    requires same { types.now.tables ≡ tokens.now }
     requires owned { AllByRecursion (IsOwned tokens.now) rows.now }
     requires distinct { IsDistinct (λ row other. row == other) rows.now }
     requires few { length rows.now < 2 ^ 32 }

@@ -15,7 +15,7 @@ pub use instr::{
     IntegerType, Move, Shift, Test, Text, Unary,
 };
 pub use library::library_types;
-pub use program::{Clause, ClauseKind, Method, Name, Place, Program, TypeInfo};
+pub use program::{Clause, ClauseKind, Layout, Method, Name, Place, Program, Slot, TypeInfo};
 pub use record::{Bounds, End, Event, Limits, Record, Site, SiteKind, Value, Words};
 pub use same::is_same_path;
 pub use single::alone;

@@ -1,6 +1,10 @@
 // Types, methods and programs.
+ghost use Rattle.std.specs.Prelude.{◌≡◌};
+ghost use Rattle.px_program.specs.Alone.{no_layout};
+
 use crate::Instr;
 use sqlite_items::Items;
+use std::alloc::Global;
 
 /// The bytes of a UTF-8 text.
 pub type Name = Items<u8>;
@@ -71,6 +75,36 @@ pub struct Method {
     pub clauses: Items<Clause>,
 }
 
+/// What a method is in overriding: Partition II, 10.3. `overridden` is the nearest method that it overrides, at once or through others, of those that the
+/// program has.
+#[derive(Clone, Copy, Debug, PartialEq, Eq)]
+pub struct Slot {
+    pub is_virtual: bool,
+    pub overridden: Option<u32>,
+}
+
+/// How an assembly has what a program has, all by numbers: its types and the methods, each in the order of their rows, and the slots of the methods. No run
+/// asks for it, but it takes this to write the program as an assembly again. A program that is linked from no assembly has an empty one.
+#[derive(Drop)]
+pub struct Layout {
+    pub types: Items<u32>,
+    pub methods: Items<u32>,
+    pub slots: Items<Slot>,
+}
+
+impl Layout {
+    /// That of a program that is linked from no assembly.
+    pub fn empty(alloc: Global) -> Layout
+        ensures { result ≡ no_layout }
+    {
+        Layout {
+            types: Items::new(alloc),
+            methods: Items::new(alloc),
+            slots: Items::new(alloc),
+        }
+    }
+}
+
 /// A program: a run begins with the method numbered `entry`, after `maker` on a new object where there is one.
 #[derive(Drop)]
 pub struct Program {
@@ -78,4 +112,5 @@ pub struct Program {
     pub methods: Items<Method>,
     pub entry: u32,
     pub maker: Option<u32>,
+    pub layout: Layout,
 }

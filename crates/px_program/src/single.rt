@@ -4,7 +4,7 @@ ghost use Rattle.std.specs.List.{AllByRecursion};
 ghost use Rattle.px_program.specs.Alone.{alone, array_of, types_with};
 ghost use Rattle.px_program.specs.Formed.{CanBegin, IsFormedIn, IsInteger, IsWellFormed};
 
-use crate::{Method, Place, Program, TypeInfo, library_types};
+use crate::{Layout, Method, Place, Program, TypeInfo, library_types};
 use sqlite_items::Items;
 use std::alloc::{AllocError, Global};
 
@@ -49,5 +49,6 @@ pub fn alone(alloc: Global, elements: &[Place], method: Method) -> Result<Progra
         methods: Items::from_vec(methods),
         entry: 0,
         maker: None,
+        layout: Layout::empty(alloc),
     })
 }

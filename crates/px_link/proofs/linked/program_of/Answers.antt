@@ -6,6 +6,7 @@ use Rattle.px_methods.specs.Methods.{AreMethods}
 use Rattle.px_reach.specs.Met.{is_in, target_of}
 use Rattle.px_reach.specs.declared.body.Whole.{Whole}
 use Rattle.px_types.specs.Numbers.{library_keys}
+use Rattle.px_link.specs.Layout.{IsLayout}
 use Rattle.px_link.specs.Parts.{HasTypes}
 use Rattle.px_link.proofs.Linking.{linked_from, met_numbered}
 use Rattle.px_link.proofs.Reached.{as_many, distinct, targets_in, virtual_rows}
@@ -51,8 +52,12 @@ returns c = λ image name is reached.
     let v = c.args.tokens.now in
     let met = c.in_ok-types.ensures in
     let typed = subst (λ x. HasTypes x (record { keys = c.in_ok-types.types.keys; rows = c.as_slice-rows.result.now }) c.args.overriding.now.lists c.as_slice-targets.result.now c.in_ok-infos.infos.items) c.meta.ensures c.in_ok-infos.ensures in
-    linked_from v image name c.args.entry.now c.args.overriding.now.lists c.args.reached.now c.as_slice-rows.result.now c.as_slice-bodies.result.now c.as_slice-targets.result.now c.in_ok-types.types.keys c.from_vec.result c.from_vec-2.result c.maker_number.result
+    let laid = subst (λ x. IsLayout x (record { keys = c.in_ok-types.types.keys; rows = c.as_slice-rows.result.now }) c.in_ok-layout.layout) c.meta-2.ensures c.in_ok-layout.ensures in
+    linked_from v image name c.args.entry.now c.args.overriding.now.lists c.args.reached.now c.as_slice-rows.result.now c.as_slice-bodies.result.now c.as_slice-targets.result.now c.in_ok-types.types.keys c.from_vec.result c.from_vec-2.result c.maker_number.result c.in_ok-layout.layout
     c.as_slice-rows.ensures c.as_slice-bodies.ensures c.as_slice-targets.ensures is c.requires.lists reached met.numbers
     (subst (λ ts. HasTypes v (record { keys = c.in_ok-types.types.keys; rows = c.as_slice-rows.result.now }) c.args.overriding.now.lists c.as_slice-targets.result.now ts) (sym c.from_vec.ensures) typed)
     (subst (λ ms. AreMethods v (record { keys = c.in_ok-types.types.keys; rows = c.as_slice-rows.result.now }) c.as_slice-bodies.result.now ms) (sym c.from_vec-2.ensures) c.in_ok-methods.ensures)
-    c.maker_number.ensures c.requires.few c.requires.owned
+    c.maker_number.ensures laid c.requires.few c.requires.owned
+
+pub layout_of-requires-clause-distinct : goal.layout_of-requires-clause-distinct
+layout_of-requires-clause-distinct c = apart (goal.at.layout_of-requires-clause-distinct c).After-as_slice-targets

@@ -1,0 +1,4 @@
+pub mod Bytes
+pub mod Encoding
+pub mod Laws
+pub mod Parts

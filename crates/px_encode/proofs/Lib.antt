@@ -1,0 +1,5 @@
+pub mod Numbers
+pub mod Stands
+pub mod Parts
+pub mod Spelled
+pub mod Whole

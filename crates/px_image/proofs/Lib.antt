@@ -1,0 +1,9 @@
+pub mod Fitting
+pub mod Headed
+pub mod Laid
+pub mod Placed
+pub mod Pushed
+pub mod ReadBack
+pub mod Streamed
+pub mod Whole
+pub mod Written

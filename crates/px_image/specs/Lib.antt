@@ -1,0 +1,5 @@
+pub mod Fitting
+pub mod Image
+pub mod Layout
+pub mod Metadata
+pub mod Parts

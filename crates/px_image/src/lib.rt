@@ -1,0 +1,21 @@
+//! Writes images and metadata that are read as they were written: Partition II, 24 and 25.
+#![tactic(auto)]
+
+mod columns;
+mod content;
+mod field;
+mod fits;
+mod headers;
+mod image;
+mod metadata;
+#[cfg(test)]
+mod metadata_tests;
+mod part;
+mod root;
+mod rows;
+#[cfg(test)]
+mod tests;
+
+pub use content::Content;
+pub use image::write_image;
+pub use metadata::write_metadata;

@@ -1,0 +1,14 @@
+//! Instructions of programs as assemblies have them: Partition III.
+#![tactic(auto)]
+
+mod arrays;
+mod flow;
+mod instr;
+mod moves;
+mod numbers;
+mod opcode;
+#[cfg(test)]
+mod tests;
+mod token;
+
+pub use instr::raw_of;

@@ -1,0 +1,5 @@
+pub mod Again
+pub mod Describes
+pub mod Laws
+pub mod Linked
+pub mod Writable
