@@ -44,12 +44,6 @@ fn put_too_long<O: Sink>(out: &mut O) -> Result<(), Stopped>
     put_pieces(out, &[Text("refused file TooLong\n")])
 }
 
-fn put_nothing<O: Sink>(out: &mut O) -> Result<(), Stopped>
-    ensures { Puts O.written O.faults out.old [] out.new result }
-{
-    put_pieces(out, &[])
-}
-
 // Writes the report or the line of an answer.
 fn put_answer<O: Sink>(out: &mut O, input: &Input, answer: &Answer) -> Result<(), Stopped>
     requires { IsWritable answer.now }
@@ -58,7 +52,7 @@ fn put_answer<O: Sink>(out: &mut O, input: &Input, answer: &Answer) -> Result<()
     match answer {
         Answer::Found(program, findings) => write_report(program.program(), input, findings, out),
         Answer::Refused(why) => put_refusal(out, *why),
-        Answer::Memory => put_nothing(out),
+        Answer::Memory => Ok(()),
     }
 }
 
@@ -73,6 +67,6 @@ pub fn put_reply<O: Sink>(out: &mut O, reply: &Reply) -> Result<(), Stopped>
         Reply::TooLong => put_too_long(out),
         Reply::ReadFault(name) => put_read_fault(out, name),
         Reply::Answered(input, answer) => put_answer(out, input, answer),
-        Reply::NoMemory => put_nothing(out),
+        Reply::NoMemory => Ok(()),
     }
 }

@@ -10,8 +10,8 @@ use Rattle.px_relink.proofs.LinksAgain.{described_is_linked}
 use Rattle.px_relink.proofs.Writing.{linked_is_writable}
 use Rattle.px_relink.specs.Linked.{IsAssemblyOf, IsLinked, RunsWhole, entry_name}
 use Rattle.px_tables.specs.Metadata.{metadata_of}
-use Rattle.px_asm.proofs.Described.{described}
-use Rattle.px_asm.specs.Written.{IsWritten}
+use Rattle.px_written.proofs.Described.{described}
+use Rattle.px_written.specs.Written.{IsWritten}
 
 pub assembled : (p : Program) (content : Content) (bodies metadata file : List ℕ) → IsLinked p → RunsWhole p → IsWritten p content bodies → Fits content
     → IsMetadataOf content metadata → IsImageOf metadata bodies file → IsAssemblyOf p (entry_name p) file

@@ -18,10 +18,10 @@ use Rattle.px_program.specs.declared.program.ClauseKind.TheVariants as kinds
 use Rattle.px_program.specs.declared.program.Method.{Method}
 use Rattle.px_program.specs.declared.program.Program.{Program}
 use Rattle.px_recode.specs.Recoding.{IsPlacedAs}
-use Rattle.px_relink.specs.Describes.{flags_of, raw_clause}
-use Rattle.px_relink.specs.Writable.{IsWritableClause}
-use Rattle.px_asm.specs.Holds.{IsBodyIn, IsInstrIn}
-use Rattle.px_asm.specs.Store.{Store}
+use Rattle.px_described.specs.Describes.{flags_of, raw_clause}
+use Rattle.px_described.specs.Writable.{IsWritableClause}
+use Rattle.px_written.specs.Holds.{IsBodyIn, IsInstrIn}
+use Rattle.px_written.specs.Store.{Store}
 use Rattle.px_asm.proofs.BodyTargets.{raw_leads}
 
 -- WHERE INSTRUCTIONS STAND

@@ -4,11 +4,12 @@ use Rattle.std.specs.Prelude.{IfOk, OnOk, slice_get}
 use Rattle.std.proofs.lemmas.Option.{get_or_from_slice_get}
 use Rattle.px_code.specs.Body.{body_of}
 use Rattle.px_code.specs.declared.body.Body.{Body}
+use Rattle.px_image.specs.Image.{first_body}
 use Rattle.px_program.specs.declared.instr.Instr.{Instr}
 use Rattle.px_program.specs.declared.program.Method.{Method}
 use Rattle.px_program.specs.declared.program.Program.{Program}
-use Rattle.px_asm.specs.Holds.{HasBodyAt, HasCode, IsAddress, IsBodyIn, first_body}
-use Rattle.px_asm.specs.Store.{Store}
+use Rattle.px_written.specs.Holds.{HasBodyAt, HasCode, IsAddress, IsBodyIn}
+use Rattle.px_written.specs.Store.{Store}
 
 -- nothing reads as a body
 some_bytes : (bytes : List ℕ) (body : Body) → body_of bytes ≡ Ok body → 0 < length bytes

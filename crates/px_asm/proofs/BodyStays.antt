@@ -11,9 +11,9 @@ use Rattle.px_program.specs.declared.instr.Instr.{Instr}
 use Rattle.px_program.specs.declared.instr.Move.TheVariants as move
 use Rattle.px_program.specs.declared.program.Program.{Program}
 use Rattle.px_asm.proofs.StoreStays.{constructor_stays, text_stays}
-use Rattle.px_asm.specs.Holds.{IsInstrIn}
-use Rattle.px_asm.specs.Store.{Store, StoreGrows}
-use Rattle.px_asm.specs.Tokens.{CalleeHas, HasTokenIn}
+use Rattle.px_written.specs.Holds.{IsInstrIn}
+use Rattle.px_written.specs.Store.{Store, StoreGrows}
+use Rattle.px_written.specs.Tokens.{CalleeHas, HasTokenIn}
 
 module _ (p : Program) (old new : Store) (g : StoreGrows old new) where
   callee_stays : (callee : Callee) (at : ℕ) → CalleeHas p old callee at → CalleeHas p new callee at

@@ -5,6 +5,7 @@ use Rattle.std.specs.List.{AllByRecursion, IsDistinct}
 use Rattle.std.proofs.lemmas.Str.{IsUtf8-from_ascii}
 use Rattle.px_code.specs.Body.{operand_of}
 use Rattle.px_code.specs.declared.body.RawInstr.{RawInstr}
+use Rattle.px_meta.specs.Rows.{is_in}
 use Rattle.px_opcodes.specs.Opcodes.{arithmetic_code, branch_by, checked_code, converted, converted_checked, converted_unsigned, flow_code, loaded, other_code, slot_move, stack_move, stored}
 use Rattle.px_program.specs.Formed.{AreTypes, CanBegin, IsFormedIn, IsFormedType, IsWellFormed, base_in, element_in}
 use Rattle.px_program.specs.Library.{library_types}
@@ -13,9 +14,8 @@ use Rattle.px_program.specs.declared.program.TypeInfo.{TypeInfo}
 use Rattle.px_program.proofs.Chains.{AreBelow}
 use Rattle.px_program.proofs.Programs.{OverridesNothing, library_overrides_nothing, nothing_overridden}
 use Rattle.px_program.proofs.Types.{AreTypes-more, IsBase-library, bases_end_behind, each-append, elements_end_behind}
-use Rattle.px_reach.specs.Met.{is_in}
 use Rattle.px_recode.specs.Recoding.{IsPlain}
-use Rattle.px_relink.specs.Writable.{HasOwner, IsText, IsWritable}
+use Rattle.px_described.specs.Writable.{HasOwner, IsText, IsWritable}
 use Rattle.px_asm.specs.Example.{all_types, bare_type, example, instance_method, own_types, return_at_once, static_method}
 
 -- TYPES

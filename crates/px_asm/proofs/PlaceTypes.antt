@@ -7,7 +7,7 @@ use Rattle.px_program.specs.declared.program.Place.TheVariants as places
 use Rattle.px_program.specs.declared.program.Program.{Program}
 use Rattle.px_program.specs.declared.program.TypeInfo.{TypeInfo}
 use Rattle.px_program.proofs.Types.{each_at}
-use Rattle.px_relink.specs.Describes.{IsClass, class_token, type_row}
+use Rattle.px_described.specs.Describes.{IsClass, class_token, type_row}
 use Rattle.px_sig.specs.declared.sig.SigType.{SigType}
 use Rattle.px_sig.specs.declared.sig.SigType.TheFolds.{fold-roll-SigType}
 use Rattle.px_sig.specs.declared.sig.SigType.TheOpen as opened

@@ -1,57 +1,20 @@
 -- How many rows a program has.
-use Rattle.std.proofs.Common.{◌≡◌, ℕ, ◌+◌, ◌<◌, ◌≤◌, ◌^◌, Bool, true, false, List, [], ◌∷◌, ◌++◌, Some, length, get_or, take, refl, sym, ap, ◌∙◌, ⊎_elim, arith, length-append, append_assoc, eqb-true, eq-eqb}
-use Rattle.std.specs.Prelude.{◌==◌, ◌||◌, drop, slice_get}
-use Rattle.std.specs.List.{AllByRecursion, IsDistinct, flat_map, list_any}
-use Rattle.std.proofs.lemmas.Bool.{cases_Bool, or_cases}
+use Rattle.std.proofs.Common.{◌≡◌, ℕ, ◌+◌, ◌<◌, ◌≤◌, ◌^◌, true, [], ◌∷◌, ◌++◌, Some, length, get_or, take, sym, ap, ◌∙◌, arith, length-append}
+use Rattle.std.specs.Prelude.{drop, slice_get}
+use Rattle.std.specs.List.{AllByRecursion, flat_map}
+use Rattle.std.proofs.lemmas.Grind.{flat_map-append}
 use Rattle.std.proofs.lemmas.List.{take-append-drop, take_more}
-use Rattle.std.proofs.lemmas.Map.Steps.{length-le_from_distinct_below}
 use Rattle.std.proofs.lemmas.Option.{get_or_from_slice_get, slice_get_within}
-use Rattle.px_link.proofs.Places.{place_below}
+use Rattle.px_methods.proofs.RowPlaces.{place_below}
+use Rattle.px_meta.specs.Rows.{is_in}
 use Rattle.px_program.proofs.Types.{each-weaken}
 use Rattle.px_program.specs.declared.program.Program.{Program}
 use Rattle.px_program.specs.declared.program.TypeInfo.{TypeInfo}
-use Rattle.px_reach.specs.Met.{is_in}
-use Rattle.px_relink.specs.Describes.{method_row, type_row}
-use Rattle.px_relink.specs.Writable.{IsAssemblyType, IsWritable}
+use Rattle.px_described.specs.Describes.{method_row, type_row}
+use Rattle.px_described.specs.Writable.{IsAssemblyType, IsWritable}
 use Rattle.px_asm.specs.Rows.{HasRoom, IsLaid}
-use Rattle.px_asm.specs.Tokens.{fields_in, fields_of, first_field}
-
--- DISTINCT NUMBERS BELOW A BOUND
-
-below_each : (bound : ℕ) (numbers : List ℕ) → AllByRecursion (λ number. number < bound) numbers → (number : ℕ) → list_any (λ other. number == other) numbers ≡ true → number < bound
-below_each bound [] below number there = absurd (cc)
-below_each bound (other ∷ numbers) below number there =
-    ⊎_elim
-    (λ same. let e = eqb-true number other same in omega (arith, e, below.0))
-    (λ later. below_each bound numbers below.1 number later)
-    (or_cases (number == other) (list_any (λ other. number == other) numbers) there)
-
--- there are no more of them than below the bound
-pub few_distinct : (numbers : List ℕ) (bound : ℕ) → IsDistinct (λ one other. one == other) numbers → AllByRecursion (λ number. number < bound) numbers → length numbers ≤ bound
-few_distinct numbers bound distinct below = length-le_from_distinct_below numbers bound distinct (below_each bound numbers below)
-
-absent : (number : ℕ) (numbers : List ℕ) → is_in numbers number ≡ false → AllByRecursion (λ other. (number == other) ≡ false) numbers
-absent number [] out = tt
-absent number (other ∷ numbers) out = (
-  ⊎_elim
-      (λ same. let e : other ≡ number = sym (eqb-true number other same) in let here = eq-eqb other number e in absurd (cc))
-      (λ differs. differs)
-      (cases_Bool (number == other)),
-  absent number numbers (later (other == number) (is_in numbers number) out),
-)
-  where
-    later : (one other : Bool) → (one || other) ≡ false → other ≡ false
-    later true other e = absurd (cc)
-    later false other e = e
-
--- as many of them as there are below the bound are all of these
-pub all_distinct : (numbers : List ℕ) (bound number : ℕ) → IsDistinct (λ one other. one == other) numbers → AllByRecursion (λ other. other < bound) numbers → length numbers ≡ bound → number < bound → is_in numbers number ≡ true
-unfolding IsDistinct
-all_distinct numbers bound number distinct below count less =
-    ⊎_elim
-    (λ there. there)
-    (λ out. absurd (let more = few_distinct (number ∷ numbers) bound (absent number numbers out, distinct) (less, below) in omega (arith, more, count)))
-    (cases_Bool (is_in numbers number))
+use Rattle.px_written.proofs.DescribedLists.{all_there, few_distinct}
+use Rattle.px_written.specs.Tokens.{fields_in, fields_of, first_field}
 
 -- TYPES AND METHODS
 
@@ -66,7 +29,7 @@ pub few_laid : (p : Program) → IsWritable p → length p.layout.types ≤ leng
 few_laid p writable = few_distinct p.layout.types (length p.types) writable.types_once (types_below p writable)
 
 pub method_is_in : (p : Program) → IsWritable p → (number : ℕ) → number < length p.methods → is_in p.layout.methods number ≡ true
-method_is_in p writable number less = all_distinct p.layout.methods (length p.methods) number writable.methods_once writable.methods writable.methods_count less
+method_is_in p writable number less = all_there p.layout.methods (length p.methods) number writable.methods_once writable.methods writable.methods_count less
 
 pub few_type_row : (p : Program) → HasRoom p → (type : ℕ) → IsLaid p type → type_row p type < 2 ^ 24
 few_type_row p room type laid = omega (arith, place_below p.layout.types type laid, few_laid p room.writable, room.types)
@@ -76,11 +39,6 @@ few_method_row p room number less = omega (arith, place_below p.layout.methods n
 
 -- FIELDS
 
-flat_map-append : {X Y : Type 0} (f : X → List Y) (xs ys : List X) → flat_map f (xs ++ ys) ≡ flat_map f xs ++ flat_map f ys
-flat_map-append f [] ys = refl
-flat_map-append f (x ∷ xs) ys = ap (λ l. f x ++ l) (flat_map-append f xs ys) ∙ sym (append_assoc (f x) (flat_map f xs) (flat_map f ys))
-
--- the types before a place have no more fields than all
 pub few_before : (p : Program) (n : ℕ) → length (fields_of p (take n p.layout.types)) ≤ length (fields_of p p.layout.types)
 few_before p n =
     let f = λ (type : ℕ). fields_in (slice_get p.types type) in

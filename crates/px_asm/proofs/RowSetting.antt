@@ -5,10 +5,10 @@ use Rattle.std.specs.List.{IsDistinct}
 use Rattle.std.proofs.lemmas.List.{length-set}
 use Rattle.std.proofs.lemmas.Bool.{cases_Bool}
 use Rattle.std.proofs.lemmas.Option.{get_or_from_slice_get, slice_get-get_or, slice_get_within}
-use Rattle.px_link.proofs.Places.{at_place_of}
+use Rattle.px_methods.proofs.RowPlaces.{at_place_of}
+use Rattle.px_meta.specs.Rows.{is_in}
 use Rattle.px_methods.specs.Codes.{place_of}
 use Rattle.px_program.proofs.Types.{each_at}
-use Rattle.px_reach.specs.Met.{is_in}
 use Rattle.px_asm.specs.Kept.{HasRows}
 
 -- DISTINCT NUMBERS

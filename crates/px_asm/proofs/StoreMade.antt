@@ -9,8 +9,8 @@ use Rattle.px_sig.specs.Grammar.{method_sig}
 use Rattle.px_sig.specs.declared.sig.MethodSig.{MethodSig}
 use Rattle.px_tables.specs.declared.tables.Row.{Row}
 use Rattle.px_asm.specs.Constructors.{HasConstructorSig}
-use Rattle.px_asm.specs.Store.{AreReferences, HasSig, IsConstructorRow, IsReference, Store, StoreGrows, check_sig, constructor_sig}
-use Rattle.px_asm.specs.Tokens.{HasConstructor}
+use Rattle.px_written.specs.Store.{AreReferences, HasSig, IsConstructorRow, IsReference, Store, StoreGrows, check_sig, constructor_sig}
+use Rattle.px_written.specs.Tokens.{HasConstructor}
 use Rattle.px_asm.proofs.StoreStays.{constructor_row_stays, grows_same, references_more, store_grows_on}
 
 -- ONE ROW

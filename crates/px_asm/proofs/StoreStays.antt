@@ -7,8 +7,8 @@ use Rattle.px_program.specs.declared.program.Place.{Place}
 use Rattle.px_program.specs.declared.program.Program.{Program}
 use Rattle.px_sig.specs.declared.sig.MethodSig.{MethodSig}
 use Rattle.px_tables.specs.declared.tables.Row.{Row}
-use Rattle.px_asm.specs.Store.{AreReferences, HasChecks, HasSig, IsAnyConstructor, IsConstructorRow, IsReference, RowsGrow, Store, StoreGrows}
-use Rattle.px_asm.specs.Tokens.{HasConstructor}
+use Rattle.px_written.specs.Store.{AreReferences, HasChecks, HasSig, IsAnyConstructor, IsConstructorRow, IsReference, RowsGrow, Store, StoreGrows}
+use Rattle.px_written.specs.Tokens.{HasConstructor}
 
 -- GROWING
 

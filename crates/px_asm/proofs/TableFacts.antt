@@ -5,19 +5,19 @@ use Rattle.std.specs.List.{AllByRecursion, AllZip, flat_map, range_with_len}
 use Rattle.std.proofs.lemmas.Grind.{flat_map-append}
 use Rattle.std.proofs.lemmas.List.{append-nil, take_more}
 use Rattle.std.proofs.lemmas.Option.{slice_get-get_or, slice_get_read, slice_get_within}
-use Rattle.px_link.proofs.Places.{each_in, each_led_to, one_of_each}
+use Rattle.px_methods.proofs.RowPlaces.{each_in, each_led_to, one_of_each}
+use Rattle.px_meta.specs.Rows.{is_in}
 use Rattle.px_program.specs.Formed.{FitsPlace, IsFormedType}
 use Rattle.px_program.specs.declared.program.Place.{Place}
 use Rattle.px_program.specs.declared.program.Place.TheVariants as places
 use Rattle.px_program.specs.declared.program.Program.{Program}
 use Rattle.px_program.specs.declared.program.TypeInfo.{TypeInfo}
-use Rattle.px_reach.specs.Met.{is_in}
-use Rattle.px_relink.specs.Writable.{IsAssemblyType, IsWritable}
-use Rattle.px_asm.specs.Holds.{IsImplRow, all_places, integer_places, pair_of}
+use Rattle.px_described.specs.Writable.{IsAssemblyType, IsWritable}
+use Rattle.px_written.specs.Holds.{IsImplRow, all_places, integer_places, pair_of}
 use Rattle.px_tables.specs.declared.tables.Row.{Row}
 use Rattle.px_program.specs.declared.program.Slot.{Slot}
 use Rattle.std.proofs.lemmas.Slice.Zip.{all_zipped_more}
-use Rattle.px_asm.specs.Tokens.{fields_in, fields_of}
+use Rattle.px_written.specs.Tokens.{fields_in, fields_of}
 use Rattle.px_asm.proofs.TableStays.{zipped_grown}
 
 -- READING

@@ -7,13 +7,13 @@ use Rattle.px_program.specs.declared.program.Method.{Method}
 use Rattle.px_program.specs.declared.program.Program.{Program}
 use Rattle.px_program.specs.declared.program.Slot.{Slot}
 use Rattle.px_program.specs.declared.program.TypeInfo.{TypeInfo}
-use Rattle.px_relink.specs.Describes.{IsSigOf}
-use Rattle.px_relink.specs.Writable.{HasOwner, IsWritable}
+use Rattle.px_described.specs.Describes.{IsSigOf}
+use Rattle.px_described.specs.Writable.{HasOwner, IsWritable}
 use Rattle.px_sig.specs.Grammar.{method_sig}
 use Rattle.px_sig.specs.declared.sig.MethodSig.{MethodSig}
 use Rattle.px_tables.specs.Counts.{has_bit}
 use Rattle.px_asm.proofs.StoreStays.{sig_stays, string_stays}
-use Rattle.px_asm.specs.Store.{HasSig, Store, StoreGrows}
+use Rattle.px_written.specs.Store.{HasSig, Store, StoreGrows}
 use Rattle.px_asm.specs.Tables.{IsMethodRow}
 use Rattle.px_asm.proofs.TableFacts.{each_got}
 

@@ -18,14 +18,14 @@ use Rattle.px_program.specs.declared.program.Method.{Method}
 use Rattle.px_program.specs.declared.program.Place.{Place}
 use Rattle.px_program.specs.declared.program.Program.{Program}
 use Rattle.px_program.specs.declared.program.TypeInfo.{TypeInfo}
-use Rattle.px_relink.specs.Describes.{method_row}
+use Rattle.px_described.specs.Describes.{method_row}
 use Rattle.px_sig.specs.declared.sig.MethodSig.{MethodSig}
 use Rattle.px_tables.specs.declared.tables.Row.{Row}
 use Rattle.px_asm.proofs.StoreStays.{grows_on, sig_stays, string_stays, text_stays}
-use Rattle.px_asm.specs.Holds.{HasCode, IsAddress, IsBodyIn, IsFieldDef, IsInstrIn, IsLocals, IsSpecRow, IsTypeDef, IsTypeRef, IsModule, Referred}
-use Rattle.px_asm.specs.Store.{AreReferences, IsConstructorRow, IsReference, Store, StoreGrows}
+use Rattle.px_written.specs.Holds.{HasCode, IsAddress, IsBodyIn, IsFieldDef, IsInstrIn, IsLocals, IsSpecRow, IsTypeDef, IsTypeRef, IsModule, Referred}
+use Rattle.px_written.specs.Store.{AreReferences, IsConstructorRow, IsReference, Store, StoreGrows}
 use Rattle.px_asm.specs.Tables.{HasAddress, HeapsGrow, IsTypeDefOf}
-use Rattle.px_asm.specs.Tokens.{CalleeHas, HasConstructor, HasTokenIn}
+use Rattle.px_written.specs.Tokens.{CalleeHas, HasConstructor, HasTokenIn}
 
 -- PAIRS
 

@@ -9,7 +9,7 @@ use Rattle.std.specs.Str.{IsAscii}
 use Rattle.std.proofs.lemmas.Bool.{and_parts, ltb-true}
 use Rattle.std.proofs.lemmas.List.Elements.{All-append, All-drop, All-from_recursion, All-take}
 use Rattle.std.proofs.lemmas.Str.{IsUtf8-append, IsUtf8-drop, IsUtf8-from_ascii, IsUtf8-take, IsCharBoundary-after_ascii}
-use Rattle.px_relink.specs.Writable.{IsText}
+use Rattle.px_described.specs.Writable.{IsText}
 
 -- a byte of ASCII that is no zero
 abbrev pub is_plain : ℕ → Bool

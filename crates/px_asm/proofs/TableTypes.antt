@@ -8,19 +8,19 @@ use Rattle.std.proofs.lemmas.Option.{same_Some, slice_get_read}
 use Rattle.std.proofs.lemmas.Slice.Zip.{AllZip-long, all_zipped_more}
 use Rattle.px_encode.specs.Heaps.{HasString}
 use Rattle.px_meta.specs.FullNames.{with_namespace}
-use Rattle.px_reach.specs.Met.{is_in}
-use Rattle.px_relink.specs.Describes.{base_of}
+use Rattle.px_meta.specs.Rows.{is_in}
+use Rattle.px_described.specs.Describes.{base_of}
 use Rattle.px_asm.proofs.StoreStays.{string_stays}
-use Rattle.px_asm.specs.Tokens.{first_field}
+use Rattle.px_written.specs.Tokens.{first_field}
 use Rattle.px_methods.specs.Codes.{place_of}
 use Rattle.px_program.specs.Library.{library_types}
 use Rattle.px_program.specs.declared.program.Method.{Method}
 use Rattle.px_program.specs.declared.program.Program.{Program}
 use Rattle.px_program.specs.declared.program.TypeInfo.{TypeInfo}
-use Rattle.px_relink.specs.Writable.{IsText, IsWritable, owner_in, owner_place}
+use Rattle.px_described.specs.Writable.{IsText, IsWritable, owner_in, owner_place}
 use Rattle.px_tables.specs.declared.tables.Row.{Row}
-use Rattle.px_asm.specs.Holds.{AreTypeDefs, IsModule, IsTypeDef, IsTypeRef, all_referred, checker, methods_before, system}
-use Rattle.px_asm.specs.Store.{Store, StoreGrows}
+use Rattle.px_written.specs.Holds.{AreTypeDefs, IsModule, IsTypeDef, IsTypeRef, all_referred, checker, methods_before, system}
+use Rattle.px_written.specs.Store.{Store, StoreGrows}
 use Rattle.px_asm.specs.Tables.{IsTypeDefOf}
 use Rattle.px_asm.proofs.TableCounts.{table_place_at}
 use Rattle.px_asm.proofs.TableFacts.{table_laid_type, table_type_there}

@@ -4,7 +4,7 @@ use Rattle.std.specs.Prelude.{IsSome, slice_get}
 use Rattle.std.proofs.lemmas.Bool.{cases_lt}
 use Rattle.std.proofs.lemmas.List.{length-map}
 use Rattle.std.proofs.lemmas.Option.{get_or_from_slice_get}
-use Rattle.px_link.proofs.Places.{at_place_of}
+use Rattle.px_methods.proofs.RowPlaces.{at_place_of}
 use Rattle.px_methods.specs.Codes.{place_of}
 use Rattle.px_program.proofs.Types.{each_at}
 use Rattle.px_program.specs.Formed.{HasField, IsArray, IsBare, IsFormedType}
@@ -13,7 +13,7 @@ use Rattle.px_program.specs.declared.program.Place.{Place}
 use Rattle.px_program.specs.declared.program.Program.{Program}
 use Rattle.px_program.specs.declared.program.TypeInfo.{TypeInfo}
 use Rattle.px_asm.specs.Rows.{HasRoom, IsLaid}
-use Rattle.px_asm.specs.Tokens.{fields_in, fields_of, first_field, instance_count}
+use Rattle.px_written.specs.Tokens.{fields_in, fields_of, first_field, instance_count}
 
 -- LAID TYPES
 

@@ -3,10 +3,10 @@ use Rattle.std.specs.Prelude.{ℕ, List}
 use Rattle.std.specs.List.{AllZip}
 use Rattle.px_program.specs.declared.program.Place.{Place}
 use Rattle.px_program.specs.declared.program.Program.{Program}
-use Rattle.px_relink.specs.Describes.{IsTypeOf}
+use Rattle.px_described.specs.Describes.{IsTypeOf}
 use Rattle.px_sig.specs.Grammar.{method_sig}
 use Rattle.px_sig.specs.declared.sig.SigType.{SigType}
-use Rattle.px_asm.specs.Store.{HasSig, Store, constructor_sig}
+use Rattle.px_written.specs.Store.{HasSig, Store, constructor_sig}
 
 -- the signature of a constructor with parameters of these places stands there
 pub record HasConstructorSig (p : Program) (s : Store) (params : List Place) (at : ℕ) : Type 0 where

@@ -4,7 +4,7 @@ use Rattle.px_program.specs.Formed.{FitsPlace}
 use Rattle.px_program.specs.declared.program.Place.{Place}
 use Rattle.px_program.specs.declared.program.Place.TheVariants as places
 use Rattle.px_program.specs.declared.program.Program.{Program}
-use Rattle.px_relink.specs.Describes.{HasElement, IsClass, IsTypeOf}
+use Rattle.px_described.specs.Describes.{HasElement, IsClass, IsTypeOf}
 use Rattle.px_sig.specs.Parts.{arrays_of}
 use Rattle.px_sig.specs.declared.sig.SigType.{SigType}
 

@@ -2,9 +2,9 @@
 use Rattle.std.specs.Prelude.{◌≡◌, ℕ, ◌<◌, List, length, Some, slice_get}
 use Rattle.px_methods.specs.Codes.{place_of}
 use Rattle.px_program.specs.declared.program.Program.{Program}
-use Rattle.px_relink.specs.Describes.{method_row, type_row}
+use Rattle.px_described.specs.Describes.{method_row, type_row}
 use Rattle.px_asm.specs.Rows.{HasRoom, IsLaid}
-use Rattle.px_asm.specs.Tokens.{first_field}
+use Rattle.px_written.specs.Tokens.{first_field}
 
 -- a vector has the row of each number that is one
 abbrev pub HasRows : (ℕ → Type 0) → (ℕ → ℕ) → List ℕ → Type 0

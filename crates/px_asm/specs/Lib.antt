@@ -1,13 +1,9 @@
 pub mod Constructors
 pub mod Elements
 pub mod Example
-pub mod Holds
 pub mod Kept
 pub mod Linking
 pub mod Made
 pub mod Rows
-pub mod Store
 pub mod Tables
-pub mod Tokens
 pub mod Whole
-pub mod Written

@@ -1,9 +1,9 @@
 -- Programs that can be written, as the parts of the writer see them.
 use Rattle.std.specs.Prelude.{◌≡◌, ◌⊎◌, ℕ, ◌<◌, ◌^◌, length, true}
+use Rattle.px_meta.specs.Rows.{is_in}
 use Rattle.px_program.specs.declared.program.Program.{Program}
-use Rattle.px_reach.specs.Met.{is_in}
-use Rattle.px_relink.specs.Writable.{IsWritable}
-use Rattle.px_asm.specs.Tokens.{fields_of}
+use Rattle.px_described.specs.Writable.{IsWritable}
+use Rattle.px_written.specs.Tokens.{fields_of}
 
 -- a program whose rows fit in tokens
 pub record HasRoom (p : Program) : Type 0 where

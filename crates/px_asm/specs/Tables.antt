@@ -6,10 +6,10 @@ use Rattle.px_program.specs.declared.program.Method.{Method}
 use Rattle.px_program.specs.declared.program.Program.{Program}
 use Rattle.px_program.specs.declared.program.TypeInfo.{TypeInfo}
 use Rattle.px_methods.specs.Codes.{place_of}
-use Rattle.px_relink.specs.Describes.{method_row}
+use Rattle.px_described.specs.Describes.{method_row}
 use Rattle.px_tables.specs.declared.tables.Row.{Row}
-use Rattle.px_asm.specs.Holds.{IsAddress, IsMethodDef, IsTypeDef, table_in}
-use Rattle.px_asm.specs.Store.{Store}
+use Rattle.px_written.specs.Holds.{IsAddress, IsMethodDef, IsTypeDef, table_in}
+use Rattle.px_written.specs.Store.{Store}
 
 -- the heaps of strings and of blobs are what they were, and more behind
 pub record HeapsGrow (old new : Store) : Type 0 where

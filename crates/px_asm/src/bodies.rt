@@ -3,14 +3,15 @@ ghost use Rattle.std.specs.Prelude.{◌≡◌, ◌≢◌, ◌+◌, ◌++◌, ◌
 ghost use Rattle.std.specs.List.{AllByRecursion, AllZip};
 ghost use Rattle.px_emit.specs.Encoding.{IsEncodable};
 ghost use Rattle.px_encode.specs.Heaps.{Grows};
+ghost use Rattle.px_image.specs.Image.{first_body};
 ghost use Rattle.px_program.specs.Formed.{HasOperands, IsFormedIn};
 ghost use Rattle.px_program.specs.declared.instr.Instr.{Instr};
 ghost use Rattle.px_program.specs.declared.program.Method.{Method};
 ghost use Rattle.px_recode.specs.Recoding.{HasRaw, token_opcode};
-ghost use Rattle.px_relink.specs.Describes.{flags_of, method_row, raw_clause};
-ghost use Rattle.px_relink.specs.Writable.{IsWritableClause};
-ghost use Rattle.px_asm.specs.Holds.{IsAddress, IsBodyIn, IsInstrIn, first_body};
-ghost use Rattle.px_asm.specs.Store.{AreReferences, StoreGrows};
+ghost use Rattle.px_described.specs.Describes.{flags_of, method_row, raw_clause};
+ghost use Rattle.px_described.specs.Writable.{IsWritableClause};
+ghost use Rattle.px_written.specs.Holds.{IsAddress, IsBodyIn, IsInstrIn};
+ghost use Rattle.px_written.specs.Store.{AreReferences, StoreGrows};
 
 use crate::places::class_token;
 use crate::rows::Rows;

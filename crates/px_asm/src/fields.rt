@@ -2,10 +2,10 @@
 ghost use Rattle.std.specs.Prelude.{◌≡◌, ◌<◌, ◌++◌, IfOk, OnOk, length, map, slice_get};
 ghost use Rattle.std.specs.List.{AllByRecursion, AllZip, flat_map};
 ghost use Rattle.px_program.specs.Formed.{FitsPlace};
-ghost use Rattle.px_relink.specs.Writable.{IsText};
-ghost use Rattle.px_asm.specs.Holds.{IsFieldDef};
-ghost use Rattle.px_asm.specs.Store.{StoreGrows};
-ghost use Rattle.px_asm.specs.Tokens.{fields_in, fields_of};
+ghost use Rattle.px_described.specs.Writable.{IsText};
+ghost use Rattle.px_written.specs.Holds.{IsFieldDef};
+ghost use Rattle.px_written.specs.Store.{StoreGrows};
+ghost use Rattle.px_written.specs.Tokens.{fields_in, fields_of};
 
 use crate::places::type_of;
 use crate::rows::Rows;

@@ -3,10 +3,10 @@ ghost use Rattle.std.specs.Prelude.{◌≡◌, ◌<◌, ◌++◌, ◌%◌, ◌^�
 ghost use Rattle.std.specs.List.{AllByRecursion, AllZip};
 ghost use Rattle.px_encode.specs.Heaps.{Grows};
 ghost use Rattle.px_program.specs.declared.program.TypeInfo.{TypeInfo};
-ghost use Rattle.px_relink.specs.Writable.{HasOwner, IsText};
+ghost use Rattle.px_described.specs.Writable.{HasOwner, IsText};
 ghost use Rattle.px_tables.specs.Counts.{has_bit};
-ghost use Rattle.px_asm.specs.Holds.{IsLocals};
-ghost use Rattle.px_asm.specs.Store.{AreReferences, StoreGrows};
+ghost use Rattle.px_written.specs.Holds.{IsLocals};
+ghost use Rattle.px_written.specs.Store.{AreReferences, StoreGrows};
 ghost use Rattle.px_asm.specs.Tables.{AreMethodRows, HasAddress, IsMethodRow, bits_where};
 
 use crate::bodies::push_body;

@@ -1,7 +1,7 @@
 // The rows of MethodImpl: Partition II, 22.27.
 ghost use Rattle.std.specs.Prelude.{◌<◌, IfOk, length, slice_get};
 ghost use Rattle.std.specs.List.{AllByRecursion, AllZip, flat_map};
-ghost use Rattle.px_asm.specs.Holds.{IsImplRow, pair_of};
+ghost use Rattle.px_written.specs.Holds.{IsImplRow, pair_of};
 
 use crate::rows::Rows;
 use px_tables::Row;

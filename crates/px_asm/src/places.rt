@@ -5,7 +5,7 @@ ghost use Rattle.px_encode.specs.Spelling.{IsSpelledSig, is_spelled};
 ghost use Rattle.px_program.specs.Formed.{AreTypes, FitsPlace, IsFormedIn};
 ghost use Rattle.px_program.specs.declared.program.Method.{Method};
 ghost use Rattle.px_program.specs.declared.program.Place.TheVariants.{Ref};
-ghost use Rattle.px_relink.specs.Describes.{IsSigOf, IsTypeOf, arguments_of, class_token};
+ghost use Rattle.px_described.specs.Describes.{IsSigOf, IsTypeOf, arguments_of, class_token};
 ghost use Rattle.px_sig.specs.Parts.{arrays_of};
 ghost use Rattle.px_asm.specs.Elements.{HoldsArray, IsLeaf, IsInnermost};
 ghost use Rattle.px_asm.specs.Rows.{HasRoom, IsTyped};

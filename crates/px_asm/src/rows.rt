@@ -1,13 +1,13 @@
 // The rows that types, fields and methods have where a program is written.
 ghost use Rattle.std.specs.Prelude.{◌≡◌, ◌+◌, ◌<◌, ◌≤◌, ◌^◌, ◌==◌, Some, true, length, IfOk, OnOk};
 ghost use Rattle.std.specs.List.{AllByRecursion, IsDistinct};
+ghost use Rattle.px_meta.specs.Rows.{is_in};
 ghost use Rattle.px_methods.specs.Codes.{place_of};
-ghost use Rattle.px_reach.specs.Met.{is_in};
-ghost use Rattle.px_relink.specs.Describes.{method_row, type_row};
-ghost use Rattle.px_relink.specs.Writable.{IsWritable};
+ghost use Rattle.px_described.specs.Describes.{method_row, type_row};
+ghost use Rattle.px_described.specs.Writable.{IsWritable};
 ghost use Rattle.px_asm.specs.Kept.{HasRows, first_field_of};
 ghost use Rattle.px_asm.specs.Rows.{HasRoom, IsLaid};
-ghost use Rattle.px_asm.specs.Tokens.{fields_in, fields_of, first_field};
+ghost use Rattle.px_written.specs.Tokens.{fields_in, fields_of, first_field};
 
 use px_program::{Program, TypeInfo};
 use std::alloc::{AllocError, Global};

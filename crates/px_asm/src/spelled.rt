@@ -3,8 +3,8 @@ ghost use Rattle.std.specs.Prelude.{◌≡◌, ◌<◌, ◌^◌, ◌++◌, IfOk,
 ghost use Rattle.std.specs.List.{AllByRecursion, AllZip, range_with_len};
 ghost use Rattle.px_program.specs.Formed.{FitsPlace};
 ghost use Rattle.px_program.specs.declared.program.Place.TheVariants as places;
-ghost use Rattle.px_asm.specs.Holds.{IsSpecRow, all_places, integer_places};
-ghost use Rattle.px_asm.specs.Store.{StoreGrows};
+ghost use Rattle.px_written.specs.Holds.{IsSpecRow, all_places, integer_places};
+ghost use Rattle.px_written.specs.Store.{StoreGrows};
 
 use crate::places::type_of;
 use crate::rows::Rows;

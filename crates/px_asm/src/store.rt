@@ -5,11 +5,11 @@ ghost use Rattle.px_encode.specs.Heaps.{HasString, HasText};
 ghost use Rattle.px_encode.specs.Spelling.{IsSpelledSig, is_spelled};
 ghost use Rattle.px_program.specs.Formed.{FitsPlace};
 ghost use Rattle.px_program.specs.declared.program.Program.{Program};
-ghost use Rattle.px_relink.specs.Writable.{IsText};
+ghost use Rattle.px_described.specs.Writable.{IsText};
 ghost use Rattle.px_sig.specs.Grammar.{field_sig, locals_sig, method_sig, type_sig};
 ghost use Rattle.px_asm.specs.Constructors.{HasConstructorSig};
-ghost use Rattle.px_asm.specs.Store.{AreReferences, HasSig, StoreGrows, check_sig};
-ghost use Rattle.px_asm.specs.Tokens.{HasConstructor};
+ghost use Rattle.px_written.specs.Store.{AreReferences, HasSig, StoreGrows, check_sig};
+ghost use Rattle.px_written.specs.Tokens.{HasConstructor};
 
 use crate::places::types_of;
 use crate::rows::Rows;
@@ -47,7 +47,7 @@ pub struct Store {
 impl Model for Store {
     ghost use Rattle.std.specs.Prelude.{codes};
     ghost use Rattle.px_encode.specs.Heaps.{HasString};
-    ghost use Rattle.px_asm.specs.Store.{Store};
+    ghost use Rattle.px_written.specs.Store.{Store};
 
     ghost Value = { Store };
 

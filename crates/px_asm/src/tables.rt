@@ -1,11 +1,11 @@
 // The tables, heaps and bodies of a written program: Partition II, 22.
 ghost use Rattle.std.specs.Prelude.{◌≡◌, ◌≤◌, ◌<◌, IfOk, OnOk, length};
 ghost use Rattle.std.specs.List.{AllByRecursion};
-ghost use Rattle.px_relink.specs.Writable.{IsText, IsWritable};
+ghost use Rattle.px_described.specs.Writable.{IsText, IsWritable};
 ghost use Rattle.px_asm.specs.Made.{AreListed, AreMade};
-ghost use Rattle.px_asm.specs.Store.{StoreGrows};
+ghost use Rattle.px_written.specs.Store.{StoreGrows};
 ghost use Rattle.px_asm.specs.Tables.{IsPut};
-ghost use Rattle.px_asm.specs.Written.{IsWritten};
+ghost use Rattle.px_written.specs.Written.{IsWritten};
 
 use crate::fields::field_defs;
 use crate::methods::{addresses_of, locals_rows, method_rows};

@@ -2,9 +2,9 @@
 ghost use Rattle.std.specs.Prelude.{◌≡◌, ◌⊎◌, ◌<◌, ◌^◌, true, length, IfOk, OnOk, slice_get};
 ghost use Rattle.px_meta.specs.Rows.{fields, member_refs, methods, type_specs};
 ghost use Rattle.px_program.specs.Formed.{CanCall, CanMake, FitsPlace, HasField, HasOperands, has_element};
-ghost use Rattle.px_asm.specs.Store.{AreReferences, StoreGrows};
-ghost use Rattle.px_asm.specs.Tokens.{CalleeHas, HasElementAt, HasTextAt, HasTokenIn, check_row, field_row, spec_row, static_row, token};
-ghost use Rattle.px_relink.specs.Describes.{method_row};
+ghost use Rattle.px_written.specs.Store.{AreReferences, StoreGrows};
+ghost use Rattle.px_written.specs.Tokens.{CalleeHas, HasElementAt, HasTextAt, HasTokenIn, check_row, field_row, spec_row, static_row, token};
+ghost use Rattle.px_described.specs.Describes.{method_row};
 
 use crate::rows::Rows;
 use crate::store::Store;

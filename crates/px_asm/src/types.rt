@@ -7,11 +7,11 @@ ghost use Rattle.px_methods.specs.Codes.{place_of};
 ghost use Rattle.px_program.specs.Library.{library_types};
 ghost use Rattle.px_program.specs.declared.program.Method.{Method};
 ghost use Rattle.px_program.specs.declared.program.TypeInfo.{TypeInfo};
-ghost use Rattle.px_relink.specs.Describes.{base_of};
-ghost use Rattle.px_relink.specs.Writable.{IsText, owner_place};
-ghost use Rattle.px_asm.specs.Holds.{AreTypeDefs, IsModule, IsTypeRef, all_referred, methods_before, system};
+ghost use Rattle.px_described.specs.Describes.{base_of};
+ghost use Rattle.px_described.specs.Writable.{IsText, owner_place};
+ghost use Rattle.px_written.specs.Holds.{AreTypeDefs, IsModule, IsTypeRef, all_referred, methods_before, system};
 ghost use Rattle.px_asm.specs.Rows.{IsLaid};
-ghost use Rattle.px_asm.specs.Store.{StoreGrows};
+ghost use Rattle.px_written.specs.Store.{StoreGrows};
 ghost use Rattle.px_asm.specs.Tables.{IsTypeDefOf};
 
 use crate::rows::Rows;

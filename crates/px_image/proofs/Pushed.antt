@@ -7,7 +7,7 @@ use Rattle.std.proofs.lemmas.List.{get_or_past}
 use Rattle.std.proofs.Math.Nat.{mod-eq_of_lt, mul-add, mul-le-mul_right, mul_assoc, mul_comm, pow-le-pow_right, pow-succ'}
 use Rattle.byteorder.specs.Endian.{little_bytes}
 use Rattle.px_tables.specs.declared.tables.Row.{Row}
-use Rattle.px_image.specs.Image.{padded}
+use Rattle.px_tables.specs.Streams.{padded}
 use Rattle.px_image.specs.Layout.{counts_of, row_counts}
 use Rattle.px_image.specs.Metadata.{blob_name, count_bytes, has_rows, header_bytes, mask_of, padded_bytes, root_bytes, stream_header, stream_headers, streams_bytes, strings_name, table_bytes, tables_name, tables_stream, user_strings_name}
 use Rattle.px_image.proofs.Headed.{one_bit}

@@ -1,7 +1,8 @@
 -- An image as it is written is one that is read, with its metadata and its bodies.
 use Rattle.std.proofs.Common.{◌≡◌, ◌<◌, ℕ, ◌+◌, ◌≤◌, ◌-◌, ◌^◌, List, ◌++◌, length, take, drop, replicate, refl, ap, ◌∙◌, sym, arith}
-use Rattle.std.proofs.lemmas.List.{append_assoc, drop-append-le, drop-drop, drop_at, length-append, length-drop, length-replicate, take_all, take_at}
-use Rattle.px_image.specs.Image.{first_body, padded, HasBodies, IsImageOf}
+use Rattle.std.proofs.lemmas.List.{append_assoc, drop-append-le, drop-drop, drop_at, length-append, length-drop, length-replicate, take_all}
+use Rattle.px_tables.specs.Streams.{padded}
+use Rattle.px_image.specs.Image.{first_body, HasBodies, IsImageOf}
 use Rattle.px_image.specs.Parts.{filled, image_bytes, section_size}
 use Rattle.px_image.proofs.ReadBack.{found, headers_written, image_is, view_of, AreHeaders}
 

@@ -1,12 +1,8 @@
 -- An image as it is written: its headers, and one section with the CLI header, the metadata and the bodies of methods (Partition II, 25.2 and 25.3).
-use Rattle.std.specs.Prelude.{◌≡◌, ℕ, ◌+◌, ◌*◌, ◌/◌, ◌<◌, List, ◌++◌, Some, Ok, length, take, drop}
+use Rattle.std.specs.Prelude.{◌≡◌, ℕ, ◌+◌, ◌<◌, List, ◌++◌, Some, Ok, length, take, drop}
 use Rattle.px_pe.specs.Image.{View, image_of}
 use Rattle.px_pe.specs.Section.{rest_at}
 use Rattle.px_pe.specs.declared.section.Span.{Span}
-
--- a size rounded up to a multiple of 4
-abbrev pub padded : ℕ → ℕ
-padded size = 4 * ((size + 3) / 4)
 
 -- the address of the first body: the section begins at 0x2000 with the 72 bytes of the CLI header, and the metadata stands behind the bodies
 abbrev pub first_body : ℕ

@@ -6,8 +6,8 @@ use Rattle.px_tables.specs.declared.counts.Counts.{Counts}
 use Rattle.px_tables.specs.declared.tables.Row.{Row}
 use Rattle.px_tables.specs.Columns.{columns_of}
 use Rattle.px_tables.specs.Counts.{column_size}
+use Rattle.px_tables.specs.Streams.{padded}
 use Rattle.px_image.specs.declared.content.Content.{Content}
-use Rattle.px_image.specs.Image.{padded}
 use Rattle.px_image.specs.Layout.{counts_of}
 
 -- the cells of a row, each in as many bytes as its column has

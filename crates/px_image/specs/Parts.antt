@@ -2,9 +2,9 @@
 use Rattle.std.specs.Prelude.{ℕ, ◌+◌, ◌-◌, ◌*◌, ◌/◌, List, [], ◌∷◌, ◌++◌, length, replicate}
 use Rattle.std.specs.List.{flat_map}
 use Rattle.byteorder.specs.Endian.{little_bytes}
+use Rattle.px_tables.specs.Streams.{padded}
 use Rattle.px_image.specs.declared.field.Field.{Field}
 use Rattle.px_image.specs.declared.field.Field.TheVariants.{Mark, U16, U32, Zeros}
-use Rattle.px_image.specs.Image.{padded}
 
 -- the bytes of a field, the low one first
 abbrev pub field_bytes : Field → List ℕ

@@ -1,7 +1,7 @@
 // Numbers and padded parts, behind what is there.
 ghost use Rattle.std.specs.Prelude.{◌≡◌, ◌+◌, ◌≤◌, ◌<◌, ◌++◌, ◌^◌, OnOk, length};
 ghost use Rattle.byteorder.specs.Endian.{little_bytes};
-ghost use Rattle.px_image.specs.Image.{padded};
+ghost use Rattle.px_tables.specs.Streams.{padded};
 ghost use Rattle.px_image.specs.Metadata.{padded_bytes};
 
 use std::alloc::AllocError;

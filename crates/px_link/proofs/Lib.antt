@@ -17,7 +17,6 @@ pub mod Linking
 pub mod Making
 pub mod Naming
 pub mod Overriding
-pub mod Places
 pub mod Placing
 pub mod Reached
 pub mod ReadsFormed

@@ -6,12 +6,11 @@ use Rattle.std.proofs.lemmas.Bool.{and_parts, cases_Bool, cond-false, cond-true,
 use Rattle.std.proofs.lemmas.Option.{same_Some}
 use Rattle.px_meta.specs.Chains.{GoesOn, IsChain, base_in as base_row}
 use Rattle.px_meta.specs.Overriding.{Derives, Directly, Through}
-use Rattle.px_meta.specs.Rows.{count_of, some_row, type_defs}
+use Rattle.px_meta.specs.Rows.{count_of, is_in, some_row, type_defs}
 use Rattle.px_methods.specs.Codes.{owner_number}
 use Rattle.px_program.specs.Formed.{DerivesFrom, IsKindOf, base_in, base_of}
 use Rattle.px_program.specs.declared.program.TypeInfo.{TypeInfo}
 use Rattle.px_program.proofs.Types.{each-append, each_at}
-use Rattle.px_reach.specs.Met.{is_in}
 use Rattle.px_tables.specs.Metadata.{View}
 use Rattle.px_types.specs.declared.key.Key.{Key}
 use Rattle.px_types.specs.declared.key.Leaf.{Leaf}

@@ -32,7 +32,7 @@ use Rattle.px_types.specs.Parts.{is_kind}
 use Rattle.px_types.proofs.Formed.{has_by, place_fits}
 use Rattle.px_types.proofs.There.{row_there}
 use Rattle.px_link.proofs.LinkedTypes.{HasDefined, defined_type, number_fits}
-use Rattle.px_link.proofs.Places.{in_instance_fields, in_static_fields, place_below}
+use Rattle.px_methods.proofs.RowPlaces.{in_instance_fields, in_static_fields, place_below}
 use Rattle.px_link.proofs.LinkedOperands.{HasLinked, HasNumbered, IsMet, IsType, array_type, has_code, is_instance, no_return, some_body, type_type}
 
 module _ (v : View) (image : pe.View) (n : Numbering) (program : Program) (has : HasNumbered v image n program) (p : ℕ → Bool) where

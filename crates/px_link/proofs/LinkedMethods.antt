@@ -10,7 +10,7 @@ use Rattle.px_code.specs.declared.body.Body.{Body}
 use Rattle.px_code.specs.declared.body.RawClause.{RawClause}
 use Rattle.px_code.specs.declared.body.RawInstr.{RawInstr}
 use Rattle.px_meta.specs.Members.{owner_of}
-use Rattle.px_meta.specs.Rows.{cell, methods}
+use Rattle.px_meta.specs.Rows.{cell, is_in, methods}
 use Rattle.px_methods.specs.Codes.{IsCode, IsInstr, IsTokenCode, Numbering, owner_number}
 use Rattle.px_methods.specs.Methods.{IsMethod, caught, class_number, clause_of, keys_of_body, keys_of_clause, keys_of_instr, keys_of_sig, linked_clause, met_by, place_of_type, receiver, return_place, sig_at}
 use Rattle.px_methods.specs.Slots.{Forms, forms_of, is_barred}
@@ -27,7 +27,7 @@ use Rattle.px_program.specs.declared.program.Place.{Place}
 use Rattle.px_program.specs.declared.program.Program.{Program}
 use Rattle.px_program.proofs.Types.{each-append}
 use Rattle.px_reach.specs.Bodies.{no_body, whole_at}
-use Rattle.px_reach.specs.Met.{IsBody, is_in, operand_at, target_of}
+use Rattle.px_reach.specs.Met.{IsBody, operand_at, target_of}
 use Rattle.px_reach.specs.declared.body.Whole.{Whole}
 use Rattle.px_sig.specs.declared.sig.SigType.{SigType}
 use Rattle.px_tables.specs.Metadata.{View}
@@ -43,7 +43,7 @@ use Rattle.px_link.proofs.Bodies.{HasStarts, IsPlacedAs, all_fit, all_ranges, al
 use Rattle.px_link.proofs.LinkedCodes.{FitsWith, operand_fits}
 use Rattle.px_link.proofs.LinkedOperands.{HasNumbered, IsClass, IsMet, class_class}
 use Rattle.px_link.proofs.LinkedTypes.{number_fits}
-use Rattle.px_link.proofs.Places.{each_of_flat_map}
+use Rattle.px_methods.proofs.RowPlaces.{each_of_flat_map}
 
 -- the rows that an instruction calls are among those of the program
 abbrev pub HasTargets : View → Numbering → RawInstr → Type 0

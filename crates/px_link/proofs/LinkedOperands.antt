@@ -4,7 +4,7 @@ use Rattle.std.specs.Prelude.{◌==◌, not, IfSome, slice_get}
 use Rattle.std.specs.List.{AllByRecursion, AllZip}
 use Rattle.std.proofs.lemmas.Bool.{cond_both, eqb-false, not-true}
 use Rattle.std.proofs.lemmas.Option.{same_Some}
-use Rattle.px_meta.specs.Rows.{cell, methods, some_row, type_defs, type_refs, type_specs}
+use Rattle.px_meta.specs.Rows.{cell, is_in, methods, some_row, type_defs, type_refs, type_specs}
 use Rattle.px_meta.specs.Tokens.{row_in, table_in}
 use Rattle.px_methods.specs.Codes.{Numbering, place_of}
 use Rattle.px_methods.specs.Methods.{IsMethod, keys_of_operand, return_place, sig_at}
@@ -15,7 +15,7 @@ use Rattle.px_program.specs.Formed.{HasCode, IsInstance, has_element, method_at}
 use Rattle.px_program.specs.declared.program.Method.{Method}
 use Rattle.px_program.specs.declared.program.Program.{Program}
 use Rattle.px_program.specs.declared.program.TypeInfo.{TypeInfo}
-use Rattle.px_reach.specs.Met.{IsBody, is_in, method_in as methods_in}
+use Rattle.px_reach.specs.Met.{IsBody, method_in as methods_in}
 use Rattle.px_reach.specs.declared.body.Whole.{Whole}
 use Rattle.px_sig.specs.declared.sig.MethodSig.{MethodSig}
 use Rattle.px_tables.specs.Metadata.{View}

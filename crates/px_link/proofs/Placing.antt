@@ -24,7 +24,7 @@ use Rattle.px_link.specs.Layout.{AreInRowOrder, row_of, row_of_key, type_row}
 use Rattle.px_link.specs.Placed.{ArePlaced, IsApart, numbers_placed}
 use Rattle.px_link.specs.declared.layout.Placed.{Placed}
 use Rattle.px_link.proofs.LinkedBases.{all_apart, number_at}
-use Rattle.px_link.proofs.Places.{in_at}
+use Rattle.px_methods.proofs.RowPlaces.{in_at}
 
 -- ONE NUMBER AFTER ANOTHER
 

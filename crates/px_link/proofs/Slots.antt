@@ -6,8 +6,7 @@ use Rattle.std.proofs.lemmas.Cmp.{nat_eq_equiv}
 use Rattle.std.proofs.lemmas.List.{take_more}
 use Rattle.std.proofs.lemmas.Slice.Zip.{all_zipped_more}
 use Rattle.px_meta.specs.Overriding.{Overrides}
-use Rattle.px_meta.specs.Rows.{IsRow, methods}
-use Rattle.px_reach.specs.Met.{is_in}
+use Rattle.px_meta.specs.Rows.{IsRow, is_in, methods}
 use Rattle.px_tables.specs.Metadata.{View}
 use Rattle.px_link.specs.Layout.{Behind, Nearest, Nothing, OverridesAmong}
 use Rattle.px_link.specs.Placed.{IsOverridden}

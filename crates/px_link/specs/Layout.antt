@@ -3,10 +3,10 @@ use Rattle.std.specs.Prelude.{◌≡◌, ℕ, zero, ◌<◌, true, false, List, 
 use Rattle.std.specs.List.{AllByRecursion, AllPairs, AllZip}
 use Rattle.std.specs.Option.{unwrap_or}
 use Rattle.px_meta.specs.Overriding.{Overrides, is_virtual}
+use Rattle.px_meta.specs.Rows.{is_in}
 use Rattle.px_methods.specs.Codes.{Numbering, place_of}
 use Rattle.px_program.specs.declared.program.Layout.{Layout}
 use Rattle.px_program.specs.declared.program.Slot.{Slot}
-use Rattle.px_reach.specs.Met.{is_in}
 use Rattle.px_tables.specs.Metadata.{View}
 use Rattle.px_types.specs.declared.key.Key.{Key}
 use Rattle.px_types.specs.declared.key.Leaf.{Leaf}

@@ -10,11 +10,8 @@ ghost use Rattle.px_link.specs.Parts.{IsEntryOf};
 use crate::LinkFault;
 use crate::maker::maker_of;
 use crate::name::is_named;
-use px_meta::{Meta, MetaMethod};
+use px_meta::{METHODS, Meta, MetaMethod};
 use px_sig::SigType;
-
-// The number of the table MethodDef.
-const METHODS: u8 = 0x06;
 
 // How many parameters can be given.
 const MOST: usize = 16;

@@ -7,9 +7,9 @@ ghost use Rattle.px_reach.specs.Met.{IsOwned};
 ghost use Rattle.px_link.specs.Layout.{AreInRowOrder, IsLayout, IsSlot, row_of, type_row};
 ghost use Rattle.px_link.specs.Placed.{ArePlaced, IsApart, IsOverridden};
 
-use crate::overrides::numbers_of;
 use indexmap::IndexSet;
 use px_meta::Meta;
+use px_methods::set_of;
 use px_program::{Layout, Slot};
 use px_types::{Key, Leaf, Types};
 use sqlite_items::Items;
@@ -149,7 +149,7 @@ pub fn layout_of(
     requires few { length rows.now < 2 ^ 32 }
     ensures { IfOk result (IsLayout meta.now (record { keys = types.now.keys; rows = rows.now })) }
 {
-    let numbers = numbers_of(alloc, rows)?;
+    let numbers = set_of(alloc, rows)?;
     let by_type = placed_types(alloc, types.keys())?;
     let by_method = placed_methods(alloc, rows)?;
     Ok(Layout {

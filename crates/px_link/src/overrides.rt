@@ -11,11 +11,12 @@ ghost use Rattle.px_link.specs.Overrides.{AreOverrides, first_of, nearest};
 ghost use Rattle.px_link.specs.Parts.{HasTypes, IsLine, pairs_by};
 
 use indexmap::IndexSet;
-use px_meta::Meta;
+use px_meta::{Meta, TYPE_DEFS, base_in, cell_of, some_row};
+use px_methods::set_of;
 use px_program::TypeInfo;
 use px_reach::Overriding;
 use px_tables::Tables;
-use px_types::{Key, Leaf, TYPE_DEFS, Types, cell_of, some_row};
+use px_types::{Key, Leaf, Types};
 use sqlite_items::Items;
 use std::alloc::{AllocError, Global};
 
@@ -32,20 +33,6 @@ fn sound_tables<'m, 'a>(meta: &'m Meta<'a>) -> &'m Tables<'a>
     // a call that says of the tables what is so of all that are read
     let _ = tables.rows(TYPE_DEFS);
     tables
-}
-
-// The base of a type, where that is one of the assembly too.
-fn base_in(tables: &Tables, row: u32) -> Option<u32>
-    requires { IsRow tables.now type_defs row }
-    ensures base { result ≡ base_in tables.now row }
-    ensures there { IfSome result (IsRow tables.now type_defs) }
-{
-    let index = cell_of(tables, TYPE_DEFS, row, 3);
-    if index % 4 == 0 {
-        some_row(tables, TYPE_DEFS, index / 4)
-    } else {
-        None
-    }
 }
 
 // A type and those behind it in its chain of bases.
@@ -91,18 +78,6 @@ fn nearest(meta: &Meta, chain: &[u32], overriders: &[u32]) -> Option<u32>
         }
     }
     None
-}
-
-// Rows by their places.
-pub(crate) fn numbers_of(alloc: Global, rows: &[u32]) -> Result<IndexSet<u32>, AllocError>
-    requires { IsDistinct (λ row other. row == other) rows.now }
-    ensures { IfOk result (λ numbers. numbers.keys ≡ rows.now) }
-{
-    let mut numbers = IndexSet::new(alloc);
-    for row in rows {
-        numbers.insert(*row)?;
-    }
-    Ok(numbers)
 }
 
 // Where a row stands among others, or their number where it isn't one of them.
@@ -189,7 +164,7 @@ pub fn types_of(
     if targets.is_empty() {
         return Ok(infos);
     }
-    let numbers = numbers_of(alloc, rows)?;
+    let numbers = set_of(alloc, rows)?;
     for n in 0..keys.len() {
         let overrides = overrides_of(alloc, meta, overriding, &numbers, targets, keys[n])?;
         infos[n].overrides = overrides;

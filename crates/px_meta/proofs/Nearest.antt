@@ -1,8 +1,8 @@
 -- The search for the nearest namesake.
-use Rattle.std.proofs.Common.{◌≡◌, ◌≢◌, ◌⊎◌, ℕ, ◌+◌, ◌<◌, ◌≤◌, Option, Some, None, refl, sym, ap, ◌∙◌, subst, inl, inr, ⊎_elim, arith}
+use Rattle.std.proofs.Common.{◌≡◌, ◌≢◌, ◌⊎◌, ℕ, ◌+◌, ◌<◌, ◌≤◌, Option, Some, None, refl, sym, ap, ◌∙◌, subst, inl, inr, ⊎_elim, arith, true}
 use Rattle.px_tables.specs.Metadata.{View}
 use Rattle.px_meta.specs.Chains.{HasEnd, base_in}
-use Rattle.px_meta.specs.Overriding.{Behind, Derives, Directly, Here, IsFirstNamesake, IsNamesake, IsNearest, Through}
+use Rattle.px_meta.specs.Overriding.{Behind, Derives, Directly, Here, IsFirstNamesake, IsNamesake, IsNearest, Through, is_virtual}
 use Rattle.px_meta.specs.Members.{owner_of}
 use Rattle.px_meta.specs.Rows.{IsRow, count_of, methods, type_defs}
 use Rattle.px_meta.proofs.Deriving.{IsLeft, left_begun, left_more, left_none}
@@ -54,3 +54,7 @@ search_over v method owner turn at s all = search_ended v method owner turn at s
 pub nearest_owned : (v : View) (method type other : ℕ) → IsNearest v method type other → owner_of v methods method ≢ 0
 nearest_owned v method type other (Here _ b _ on first) = first.namesake.may.owned
 nearest_owned v method type other (Behind _ b _ on nobody later) = nearest_owned v method b other later
+
+pub nearest_virtual : (v : View) (method type other : ℕ) → IsNearest v method type other → is_virtual v method ≡ true
+nearest_virtual v method type other (Here _ b _ on first) = first.namesake.may.virtual
+nearest_virtual v method type other (Behind _ b _ on nobody later) = nearest_virtual v method b other later

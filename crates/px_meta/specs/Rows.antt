@@ -1,6 +1,6 @@
 -- The rows that types and members stand in (Partition II, 22), and their tokens.
 use Rattle.std.specs.Prelude.{ℕ, ◌+◌, ◌*◌, ◌/◌, ◌%◌, ◌^◌, ◌≤◌, ◌==◌, ◌&&◌, not, nat_le, Bool, if◌then◌else◌, List, Option, Some, None, slice_index, take_while, drop}
-use Rattle.std.specs.List.{range_with_len}
+use Rattle.std.specs.List.{list_any, range_with_len}
 use Rattle.px_blobs.specs.Items.{IsStringAt}
 use Rattle.px_tables.specs.Metadata.{View}
 use Rattle.px_tables.specs.Counts.{rows_of}
@@ -46,6 +46,10 @@ rows_in v table = range_with_len 1 (count_of v table)
 pub record IsRow (v : View) (table row : ℕ) : Type 0 where
   pub some : 1 ≤ row
   pub few : row ≤ count_of v table
+
+-- whether a row is one of some
+abbrev pub is_in : List ℕ → ℕ → Bool
+is_in rows row = list_any (λ other. other == row) rows
 
 -- a number as a row of a table, where the table has such a row
 abbrev pub some_row : View → ℕ → ℕ → Option ℕ

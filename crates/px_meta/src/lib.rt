@@ -17,3 +17,6 @@ mod types;
 pub use fault::{MetaFault, MetaKind};
 pub use meta::{Member, MetaField, MetaMethod, MetaType};
 pub use metadata::{Meta, resolve};
+pub use table::{
+    FIELDS, MEMBER_REFS, METHODS, TYPE_DEFS, TYPE_REFS, TYPE_SPECS, base_in, cell_of, some_row,
+};

@@ -166,6 +166,9 @@ pub fn by_name(tables: &Tables, members: &[MetaMethod], method: u32) -> Option<u
     ensures { MatchOption result ((other : ℕ) → is_new_slot tables.now method ≡ false → IsNearest tables.now method (owner_of tables.now methods method) other → ⊥) (IsNamed tables.now method) }
 {
     let own = &members[method as usize - 1];
+    if own.flags / 64 % 2 != 1 {
+        return None;
+    }
     if own.flags / 256 % 2 == 1 {
         return None;
     }

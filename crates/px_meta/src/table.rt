@@ -1,5 +1,5 @@
 // Rows, and what their cells name.
-ghost use Rattle.std.specs.Prelude.{◌≡◌, ◌≢◌, ◌-◌, ◌≤◌, ◌<◌, ℕ, length, slice_index_or, MatchOption};
+ghost use Rattle.std.specs.Prelude.{◌≡◌, ◌≢◌, ◌-◌, ◌≤◌, ◌<◌, ℕ, length, slice_index_or, IfSome, MatchOption};
 ghost use Rattle.px_blobs.specs.Items.{IsStringAt};
 ghost use Rattle.px_meta.specs.Faults.{HasNames};
 ghost use Rattle.px_meta.specs.Chains.{base_in};
@@ -10,23 +10,31 @@ ghost use Rattle.px_meta.specs.Tokens.{Names, parent_by, row_in};
 use px_blobs::string_at;
 use px_tables::{Heap, Tables};
 
-/// The numbers of the tables that are read.
+/// The number of the table TypeRef: Partition II, 22.38.
 pub const TYPE_REFS: u8 = 0x01;
 
+/// The number of the table TypeDef: Partition II, 22.37.
 pub const TYPE_DEFS: u8 = 0x02;
 
+/// The number of the table Field: Partition II, 22.15.
 pub const FIELDS: u8 = 0x04;
 
+/// The number of the table MethodDef: Partition II, 22.26.
 pub const METHODS: u8 = 0x06;
 
+/// The number of the table MemberRef: Partition II, 22.25.
 pub const MEMBER_REFS: u8 = 0x0A;
 
+/// The number of the table MethodImpl: Partition II, 22.27.
 pub const METHOD_IMPLS: u8 = 0x19;
 
+/// The number of the table TypeSpec: Partition II, 22.39.
 pub const TYPE_SPECS: u8 = 0x1B;
 
+/// The number of the table ModuleRef: Partition II, 22.31.
 pub const MODULE_REFS: u8 = 0x1A;
 
+/// The number of the table NestedClass: Partition II, 22.32.
 pub const NESTED_CLASSES: u8 = 0x29;
 
 // The token of a row.
@@ -36,7 +44,7 @@ pub fn token_of(table: u8, row: u32) -> u32
     (u32::from(table) << 24).wrapping_add(row)
 }
 
-// The number in a column of a row.
+/// The number in a column of a row.
 pub fn cell_of(tables: &Tables, table: u8, row: u32, column: usize) -> u32
     requires row { IsRow tables.now table row }
     requires column { column < 9 }
@@ -45,17 +53,18 @@ pub fn cell_of(tables: &Tables, table: u8, row: u32, column: usize) -> u32
     tables.row(table, row).cells[column]
 }
 
-// A number as a row of a table that has it.
+/// A number as a row of a table that has it.
 pub fn some_row(tables: &Tables, table: u8, row: u32) -> Option<u32>
     ensures { result ≡ some_row tables.now table row }
 {
     (1 <= row && row <= tables.rows(table)).then_some(row)
 }
 
-// The row of the assembly's type that the base of a type is.
+/// The row of the assembly's type that the base of a type is.
 pub fn base_in(tables: &Tables, row: u32) -> Option<u32>
     requires { IsRow tables.now type_defs row }
-    ensures { result ≡ base_in tables.now row }
+    ensures base { result ≡ base_in tables.now row }
+    ensures there { IfSome result (IsRow tables.now type_defs) }
 {
     let index = cell_of(tables, TYPE_DEFS, row, 3);
     if index % 4 == 0 {

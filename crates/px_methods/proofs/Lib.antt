@@ -2,4 +2,5 @@ pub mod Added
 pub mod Named
 pub mod Numbered
 pub mod Pieces
+pub mod RowPlaces
 pub mod Standing

@@ -2,11 +2,11 @@
 use Rattle.std.specs.Prelude.{◌≡◌, ◌≢◌, ℕ, ◌<◌, ◌==◌, ◌||◌, Bool, true, false, List, ◌++◌, Some}
 use Rattle.std.specs.List.{AllByRecursion}
 use Rattle.px_meta.specs.Members.{owner_of}
-use Rattle.px_meta.specs.Rows.{fields}
+use Rattle.px_meta.specs.Rows.{fields, is_in}
 use Rattle.px_operands.specs.Parts.{IsThere}
 use Rattle.px_operands.specs.declared.operand.Operand.{Operand}
 use Rattle.px_operands.specs.declared.operand.Operand.TheVariants as operand
-use Rattle.px_reach.specs.Met.{is_in, method_in}
+use Rattle.px_reach.specs.Met.{method_in}
 use Rattle.px_tables.specs.Metadata.{View}
 use Rattle.px_types.specs.Keys.{IsKey}
 use Rattle.px_types.specs.Making.{AreNumberedIn}

@@ -2,9 +2,9 @@
 ghost use Rattle.std.specs.Prelude.{◌≡◌, ◌≢◌, ◌<◌, ◌%◌, ◌^◌, IfOk, Some, false, length, map, true};
 ghost use Rattle.std.specs.List.{AllZip, flat_map};
 ghost use Rattle.px_meta.specs.Members.{owner_of};
-ghost use Rattle.px_meta.specs.Rows.{IsRow, fields};
+ghost use Rattle.px_meta.specs.Rows.{IsRow, fields, is_in};
 ghost use Rattle.px_opcodes.specs.Opcodes.{plain_code};
-ghost use Rattle.px_reach.specs.Met.{is_in, operand_at, target_of};
+ghost use Rattle.px_reach.specs.Met.{operand_at, target_of};
 ghost use Rattle.px_types.specs.Keys.{alone};
 ghost use Rattle.px_types.specs.Making.{AreNumberedIn};
 ghost use Rattle.px_types.specs.Numbers.{is_integer, is_numbered};

@@ -8,9 +8,9 @@ ghost use Rattle.px_methods.specs.Codes.{field_among, place_of};
 ghost use Rattle.px_methods.specs.Parts.{fields_by};
 
 use crate::places::number_of_row;
-use px_meta::Meta;
+use px_meta::{FIELDS, Meta};
 use px_program::Field;
-use px_types::{FIELDS, Leaf, Types, instance_fields, static_fields};
+use px_types::{Leaf, Types, instance_fields, static_fields};
 use std::alloc::{AllocError, Global};
 
 // Where a row stands among some, if it is among them.

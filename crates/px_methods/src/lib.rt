@@ -15,4 +15,4 @@ mod tests;
 
 pub use clauses::clause_of;
 pub use met::met_by_all;
-pub use methods::methods_of;
+pub use methods::{methods_of, set_of};

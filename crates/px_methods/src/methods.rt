@@ -1,7 +1,8 @@
 // Methods, by the numbers of types and methods.
 ghost use Rattle.std.specs.Prelude.{◌≡◌, ◌∷◌, ◌++◌, ◌<◌, ◌^◌, ◌==◌, Bool, Some, true, length, map, IfOk};
 ghost use Rattle.std.specs.List.{AllByRecursion, IsDistinct, flat_map};
-ghost use Rattle.px_reach.specs.Met.{IsOwned, is_in, target_of};
+ghost use Rattle.px_meta.specs.Rows.{is_in};
+ghost use Rattle.px_reach.specs.Met.{IsOwned, target_of};
 ghost use Rattle.px_types.specs.Keys.{alone, place_key};
 ghost use Rattle.px_types.specs.Making.{AreNumberedIn};
 ghost use Rattle.px_types.specs.Numbers.{is_numbered};
@@ -13,10 +14,10 @@ use crate::clauses::clauses_of;
 use crate::codes::instrs_of;
 use crate::names::{method_at, method_name};
 use crate::places::{number_of_row, places_of};
-use crate::slots::{SlotForms, is_void};
+use crate::slots::SlotForms;
 use indexmap::IndexSet;
 use px_meta::Meta;
-use px_operands::Tokens;
+use px_operands::{Tokens, is_void};
 use px_program::{Method, Place};
 use px_reach::Whole;
 use px_sig::{MethodSig, SigType};
@@ -96,8 +97,8 @@ fn method_of(
     })
 }
 
-// Rows as the keys of a set, which finds the place of each.
-fn set_of(alloc: Global, rows: &[u32]) -> Result<IndexSet<u32>, AllocError>
+/// Rows as the keys of a set, which finds the place of each.
+pub fn set_of(alloc: Global, rows: &[u32]) -> Result<IndexSet<u32>, AllocError>
     requires { IsDistinct (λ row other. row == other) rows.now }
     ensures { IfOk result (λ set. set.keys ≡ rows.now) }
 {

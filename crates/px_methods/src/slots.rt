@@ -1,9 +1,9 @@
 // Arguments, locals and returns of forms that aren't run.
 ghost use Rattle.std.specs.Prelude.{◌≡◌, ◌++◌, IfOk, OnOk, map, slice_get};
-ghost use Rattle.px_operands.specs.Operands.{is_void};
 ghost use Rattle.px_methods.specs.Slots.{forms_of, is_barred, is_other, is_set, moves_other};
 
 use px_meta::Meta;
+use px_operands::is_void;
 use px_program::{Code, Move};
 use px_sig::{MethodSig, SigType};
 use px_types::key_of;
@@ -24,13 +24,6 @@ impl Model for SlotForms {
     ghost Value = { Forms };
 
     ghost view = { λ f. record { args = f.args.items; locals = f.locals.items; ret = f.ret } };
-}
-
-/// Whether a type of a signature is `void`.
-pub fn is_void(item: &SigType) -> bool
-    ensures { result ≡ is_void item.now }
-{
-    matches!(item, SigType::Void)
 }
 
 fn is_other(meta: &Meta, item: &SigType) -> bool

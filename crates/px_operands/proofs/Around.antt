@@ -7,9 +7,9 @@ use Rattle.std.proofs.lemmas.Bool.{eqb-false, eqb-true, ne_eqb, or_parts}
 use Rattle.std.proofs.lemmas.List.{length_push}
 use Rattle.std.proofs.lemmas.List.Folds.{list_any-append}
 use Rattle.std.proofs.lemmas.Map.Steps.{length-le_from_distinct_below}
-use Rattle.px_meta.specs.Rows.{IsRow, count_of, type_refs}
+use Rattle.px_meta.specs.Rows.{IsRow, count_of, is_in, type_refs}
 use Rattle.px_tables.specs.Metadata.{View}
-use Rattle.px_operands.specs.Outside.{AreScopes, ComesBack, Ends, GoesOn, is_in, scope_of}
+use Rattle.px_operands.specs.Outside.{AreScopes, ComesBack, Ends, GoesOn, scope_of}
 
 -- A walk over the references around a row is at one of them: whatever is around that one goes on behind those that were met.
 pub record IsAround (v : View) (row : ℕ) (scopes : List ℕ) (at : ℕ) : Type 0 where

@@ -1,11 +1,10 @@
 -- The names of what isn't run: that of a member, `Namespace.Outer/Inner::Member`, where the token names one of another assembly, a method without a body,
 -- or the method of a `callvirt`; and else that of the opcode.
 use Rattle.std.specs.Prelude.{◌≡◌, ℕ, ◌/◌, ◌%◌, ◌==◌, Bool, true, false, ◌||◌, if◌then◌else◌, List, [], ◌∷◌, ◌++◌, codes, Option, Some, None}
-use Rattle.std.specs.List.{list_any}
 use Rattle.px_code.specs.Body.{is_among, with_token}
 use Rattle.px_meta.specs.FullNames.{IsTypeName, with_namespace}
 use Rattle.px_meta.specs.Members.{owner_of}
-use Rattle.px_meta.specs.Rows.{cell, member_refs, methods, some_row, text_at, type_defs, type_refs}
+use Rattle.px_meta.specs.Rows.{cell, is_in, member_refs, methods, some_row, text_at, type_defs, type_refs}
 use Rattle.px_meta.specs.Tokens.{row_in, table_in}
 use Rattle.px_opcodes.specs.Opcodes.{opcode_name}
 use Rattle.px_tables.specs.Metadata.{View}
@@ -22,9 +21,6 @@ pub record Member : Type 0 where
 -- the reference that a reference to a type is nested in
 abbrev pub scope_of : View → ℕ → Option ℕ
 scope_of v row = if cell v type_refs row 0 % 4 == 3 then some_row v type_refs (cell v type_refs row 0 / 4) else None
-
-abbrev pub is_in : List ℕ → ℕ → Bool
-is_in rows row = list_any (λ other. other == row) rows
 
 -- the references around a reference, the innermost first; where they come back to one that was there, they stop before it
 pub data AreScopes (v : View) : List ℕ → ℕ → List ℕ → Type 0 where

@@ -9,9 +9,9 @@ use crate::constructors::library_constructor;
 use crate::methods::{Way, method_at};
 use crate::operand::Operand;
 use crate::references::reference_sig;
-use crate::rows::{MEMBER_REFS, METHODS, row_at};
+use crate::rows::row_at;
 use crate::tokens::Tokens;
-use px_meta::Meta;
+use px_meta::{MEMBER_REFS, METHODS, Meta};
 use std::alloc::{AllocError, Global};
 
 // What the library has for a reference to a method. A new object can't be made by a check.

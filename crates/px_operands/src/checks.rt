@@ -7,10 +7,11 @@ ghost use Rattle.px_operands.specs.Parts.{IsThere};
 use crate::operand::Operand;
 use crate::owned::is_void;
 use crate::references::{member_name, parent_ref};
+use px_meta::{TYPE_REFS, cell_of};
 use px_program::Check;
 use px_sig::{Integer, MethodSig, SigType};
 use px_tables::Tables;
-use px_types::{TYPE_REFS, cell_of, ref_name, text_at};
+use px_types::{ref_name, text_at};
 
 fn check_named(name: &[u8]) -> Option<Check>
     ensures { result ≡ check_named name.now }

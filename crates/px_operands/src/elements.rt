@@ -6,8 +6,7 @@ ghost use Rattle.px_types.specs.Keys.{IsKey, array_in};
 
 use crate::integers::integer_at;
 use crate::known::known_key;
-use crate::rows::TYPE_SPECS;
-use px_meta::Meta;
+use px_meta::{Meta, TYPE_SPECS};
 use px_types::{Key, class_of, is_integer};
 
 // What a TypeSpec spells.

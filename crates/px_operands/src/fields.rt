@@ -9,8 +9,7 @@ use crate::operand::Operand;
 use crate::owned::{is_form, is_owned};
 use crate::rows::row_at;
 use crate::tokens::Tokens;
-use px_meta::{Meta, MetaField};
-use px_types::FIELDS;
+use px_meta::{FIELDS, Meta, MetaField};
 
 // Whether a field is static or not, as asked, and what it holds is of a form that is run.
 fn is_asked(meta: &Meta, is_static: bool, field: &MetaField) -> bool

@@ -5,9 +5,9 @@ ghost use Rattle.px_operands.specs.Operands.{integer_at, integer_named};
 ghost use Rattle.px_types.specs.Keys.{IsLeaf};
 
 use crate::rows::row_at;
-use px_meta::Meta;
+use px_meta::{Meta, TYPE_REFS};
 use px_sig::Integer;
-use px_types::{Leaf, TYPE_REFS, is_system, ref_name};
+use px_types::{Leaf, is_system, ref_name};
 
 static INTEGERS: [(&[u8], Integer); 12] = [
     (b"Boolean", Integer::Bool),

@@ -25,4 +25,5 @@ mod texts;
 mod tokens;
 
 pub use operand::Operand;
+pub use owned::is_void;
 pub use tokens::Tokens;

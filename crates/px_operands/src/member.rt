@@ -4,10 +4,9 @@ ghost use Rattle.px_meta.specs.Rows.{IsRow, member_refs, methods};
 ghost use Rattle.px_operands.specs.Naming.{IsParent, said};
 ghost use Rattle.px_operands.specs.Outside.{gives_name, member_at, method_member, owned_member, parent_type, reference_member};
 
-use crate::rows::{MEMBER_REFS, METHODS};
-use px_meta::Meta;
+use px_meta::{MEMBER_REFS, METHODS, Meta, TYPE_DEFS, TYPE_REFS, cell_of, some_row};
 use px_tables::Tables;
-use px_types::{TYPE_DEFS, TYPE_REFS, cell_of, some_row, text_at};
+use px_types::text_at;
 
 /// The type that has a member: one of the assembly by its row of TypeDef, or one of another assembly by its row of TypeRef.
 #[derive(Clone, Copy, Debug, PartialEq, Eq)]

@@ -8,9 +8,9 @@ ghost use Rattle.px_operands.specs.Read.{fits_call, takes_call};
 
 use crate::operand::Operand;
 use crate::owned::{is_form, is_owned, is_void};
-use crate::rows::{METHODS, row_at};
+use crate::rows::row_at;
 use crate::tokens::Tokens;
-use px_meta::{Meta, MetaMethod};
+use px_meta::{METHODS, Meta, MetaMethod};
 use px_sig::{MethodSig, SigType};
 
 /// How a method is called: by `call`, `callvirt` or `newobj`.

@@ -8,11 +8,11 @@ ghost use Rattle.px_operands.specs.Outside.{IsMemberName, IsOutsideName, IsParen
 
 use crate::member::{Parent, TypeMember, member_at};
 use crate::scopes::scopes_of;
-use px_meta::Meta;
+use px_meta::{Meta, TYPE_REFS, cell_of};
 use px_opcodes::opcode_name;
 use px_program::Name;
 use px_tables::Tables;
-use px_types::{TYPE_REFS, cell_of, full_name, text_at};
+use px_types::{full_name, text_at};
 use sqlite_items::Items;
 use std::alloc::{AllocError, Global};
 

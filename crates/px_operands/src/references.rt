@@ -5,11 +5,10 @@ ghost use Rattle.px_meta.specs.Rows.{IsRow, member_refs, type_refs};
 ghost use Rattle.px_operands.specs.Named.{reference_sig};
 ghost use Rattle.px_operands.specs.Operands.{member_name, parent_ref};
 
-use crate::rows::MEMBER_REFS;
-use px_meta::{Member, Meta};
+use px_meta::{MEMBER_REFS, Member, Meta, TYPE_REFS, cell_of, some_row};
 use px_sig::MethodSig;
 use px_tables::Tables;
-use px_types::{TYPE_REFS, cell_of, some_row, text_at};
+use px_types::text_at;
 
 /// The signature of the reference to a method that a token names.
 pub fn reference_sig<'m>(meta: &'m Meta, token: u32) -> Option<&'m MethodSig>

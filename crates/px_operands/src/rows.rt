@@ -3,17 +3,8 @@ ghost use Rattle.std.specs.Prelude.{◌≡◌, IfSome};
 ghost use Rattle.px_meta.specs.Rows.{IsRow};
 ghost use Rattle.px_operands.specs.Named.{row_at};
 
+use px_meta::some_row;
 use px_tables::Tables;
-use px_types::some_row;
-
-/// The number of the table MethodDef.
-pub const METHODS: u8 = 0x06;
-
-/// The number of the table MemberRef.
-pub const MEMBER_REFS: u8 = 0x0A;
-
-/// The number of the table TypeSpec.
-pub const TYPE_SPECS: u8 = 0x1B;
 
 /// The row that a token names, where it names one of the table.
 pub fn row_at(tables: &Tables, table: u8, token: u32) -> Option<u32>

@@ -1,11 +1,11 @@
 // The references around a reference to a type of another assembly.
 ghost use Rattle.std.specs.Prelude.{◌≡◌, [], ◌∷◌, IfOk, IfSome};
 ghost use Rattle.std.specs.List.{AllByRecursion};
-ghost use Rattle.px_meta.specs.Rows.{IsRow, type_refs};
-ghost use Rattle.px_operands.specs.Outside.{AreScopes, is_in, scope_of};
+ghost use Rattle.px_meta.specs.Rows.{IsRow, is_in, type_refs};
+ghost use Rattle.px_operands.specs.Outside.{AreScopes, scope_of};
 
+use px_meta::{TYPE_REFS, cell_of, some_row};
 use px_tables::Tables;
-use px_types::{TYPE_REFS, cell_of, some_row};
 use std::alloc::{AllocError, Global};
 
 // The reference that a reference to a type is nested in.

@@ -2,9 +2,10 @@
 use Rattle.std.proofs.Common.{◌≡◌, ℕ, ◌<◌, ◌^◌, List, [], ◌∷◌, length, true, Result, Ok, Err, sym, subst}
 use Rattle.std.specs.Prelude.{OnOk}
 use Rattle.std.specs.List.{AllByRecursion}
+use Rattle.px_meta.specs.Rows.{is_in}
 use Rattle.px_tables.specs.Metadata.{View}
 use Rattle.px_reach.specs.Finding.{AreFollowed, AreIn, AreKept}
-use Rattle.px_reach.specs.Met.{IsOwned, add_new, is_in, with_overriders}
+use Rattle.px_reach.specs.Met.{IsOwned, add_new, with_overriders}
 use Rattle.px_reach.specs.Overriders.{overriders_in}
 use Rattle.px_reach.proofs.Sets.{added_each, added_none, all_added, each_in, each_kept}
 

@@ -6,11 +6,12 @@ use Rattle.std.proofs.lemmas.Bool.{or_cases}
 use Rattle.std.proofs.lemmas.List.{take_all}
 use Rattle.px_code.specs.Reading.{Fault}
 use Rattle.px_code.specs.declared.body.RawInstr.{RawInstr}
+use Rattle.px_meta.specs.Rows.{is_in}
 use Rattle.px_pe.specs.Image as pe
 use Rattle.px_tables.specs.Metadata.{View}
 use Rattle.px_reach.specs.Bodies.{whole_at}
 use Rattle.px_reach.specs.Finding.{AreIn}
-use Rattle.px_reach.specs.Met.{IsBody, IsReached, calls_at, calls_of, each_once, in_body, is_in, target_of, virtual_target_of, virtual_targets_at, with_overriders}
+use Rattle.px_reach.specs.Met.{IsBody, IsReached, calls_at, calls_of, each_once, in_body, target_of, virtual_target_of, virtual_targets_at, with_overriders}
 use Rattle.px_reach.specs.declared.body.Whole.{Whole}
 use Rattle.px_reach.specs.declared.methods.Reached.{Reached}
 use Rattle.px_reach.proofs.Sets.{added_apart, added_behind, added_in, each_from, each_in, in_either, in_left, in_once, in_right}

@@ -7,9 +7,10 @@ use Rattle.std.proofs.lemmas.Bool.{cond_both, cond-true, cond-false, eq-eqb, eqb
 use Rattle.std.proofs.lemmas.List.Quantifiers.{all_pairs_push}
 use Rattle.std.proofs.lemmas.List.{append-nil, flat_map_more, take_more}
 use Rattle.std.proofs.lemmas.List.Folds.{list_any-append}
+use Rattle.px_meta.specs.Rows.{is_in}
 use Rattle.px_program.proofs.Types.{each-append}
 use Rattle.px_reach.specs.Finding.{AreIn}
-use Rattle.px_reach.specs.Met.{add_new, each_once, is_in}
+use Rattle.px_reach.specs.Met.{add_new, each_once}
 
 -- WHAT IS THERE
 

@@ -7,11 +7,12 @@ use Rattle.std.proofs.lemmas.List.{append-nil, length-append, length-take, take-
 use Rattle.std.proofs.lemmas.List.Concat.{flat_map-append}
 use Rattle.std.proofs.lemmas.Option.{slice_get_within}
 use Rattle.px_code.specs.Reading.{Fault}
+use Rattle.px_meta.specs.Rows.{is_in}
 use Rattle.px_pe.specs.Image as pe
 use Rattle.px_tables.specs.Metadata.{View}
 use Rattle.px_reach.specs.Bodies.{whole_at}
 use Rattle.px_reach.specs.Finding.{AreKept, AreUnderWay, IsRefused, Refuses, Visits}
-use Rattle.px_reach.specs.Met.{AreMet, Blames, IsBody, IsFirstRefused, IsReached, add_new, calls_at, each_once, is_in, virtual_targets_at}
+use Rattle.px_reach.specs.Met.{AreMet, Blames, IsBody, IsFirstRefused, IsReached, add_new, calls_at, each_once, virtual_targets_at}
 use Rattle.px_reach.specs.declared.body.Whole.{Whole}
 use Rattle.px_reach.specs.declared.methods.ReachFault.{ReachFault}
 use Rattle.px_reach.specs.declared.methods.ReachFault.TheVariants as faults

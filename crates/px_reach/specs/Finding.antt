@@ -4,10 +4,11 @@ use Rattle.std.specs.List.{AllByRecursion, AllZip, flat_map}
 use Rattle.px_code.specs.declared.body.BodyFault.{BodyFault}
 use Rattle.px_code.specs.declared.body.BodyFault.TheVariants as bodies
 use Rattle.px_code.specs.Reading.{Fault}
+use Rattle.px_meta.specs.Rows.{is_in}
 use Rattle.px_pe.specs.Image as pe
 use Rattle.px_tables.specs.Metadata.{View}
 use Rattle.px_reach.specs.Bodies.{whole_at}
-use Rattle.px_reach.specs.Met.{AreMet, IsBody, IsOwned, add_new, calls_at, each_once, is_in, virtual_targets_at, with_overriders}
+use Rattle.px_reach.specs.Met.{AreMet, IsBody, IsOwned, add_new, calls_at, each_once, virtual_targets_at, with_overriders}
 use Rattle.px_reach.specs.declared.body.Whole.{Whole}
 use Rattle.px_reach.specs.declared.methods.ReachFault.{ReachFault}
 use Rattle.px_reach.specs.declared.methods.ReachFault.TheVariants as faults

@@ -1,11 +1,11 @@
 -- The methods that a program has: those that it starts with, and all that calls and overriding reach.
 use Rattle.std.specs.Prelude.{◌≡◌, ◌≢◌, ℕ, ◌<◌, ◌%◌, ◌^◌, ◌==◌, Bool, true, if◌then◌else◌, List, [], ◌∷◌, ◌++◌, length, take, Option, Some, Result, Ok, Err, IsOk, slice_get}
-use Rattle.std.specs.List.{AllZip, flat_map, list_any}
+use Rattle.std.specs.List.{AllZip, flat_map}
 use Rattle.px_code.specs.Body.{IsFormed}
 use Rattle.px_code.specs.Reading.{Fault}
 use Rattle.px_code.specs.declared.body.RawInstr.{RawInstr}
 use Rattle.px_meta.specs.Members.{owner_of}
-use Rattle.px_meta.specs.Rows.{IsRow, cell, methods}
+use Rattle.px_meta.specs.Rows.{IsRow, cell, is_in, methods}
 use Rattle.px_operands.specs.Operands.{operand_of}
 use Rattle.px_operands.specs.declared.operand.Operand.{Operand}
 use Rattle.px_operands.specs.declared.operand.Operand.TheVariants as operand
@@ -19,9 +19,6 @@ use Rattle.px_reach.specs.declared.methods.ReachFault.TheVariants as faults
 use Rattle.px_reach.specs.declared.methods.Reached.{Reached}
 
 -- LISTS WITHOUT REPEATS
-
-abbrev pub is_in : List ℕ → ℕ → Bool
-is_in rows row = list_any (λ other. other == row) rows
 
 -- those of some rows that aren't there yet, each once, behind what is there
 abbrev pub add_new : List ℕ → List ℕ → List ℕ

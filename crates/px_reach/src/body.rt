@@ -9,14 +9,12 @@ ghost use Rattle.px_reach.specs.Bodies.{body_at, locals_at, locals_in, no_body, 
 
 use px_blobs::blob_at;
 use px_code::{Body, BodyFault, BodyKind, read_body};
+use px_meta::{METHODS, some_row};
 use px_pe::Image;
 use px_sig::{SigFault, SigType, read_locals_sig};
 use px_tables::{Heap, Tables};
 use sqlite_items::Items;
 use std::alloc::{AllocError, Global};
-
-// The numbers of the tables that are read.
-const METHODS: u8 = 0x06;
 
 const STAND_ALONE_SIGS: u8 = 0x11;
 
@@ -50,13 +48,6 @@ fn blob_in(heap: &[u8], at: u32) -> Option<&[u8]>
     ensures short { IfSome result (λ x. length x.now < 2 ^ 31) }
 {
     blob_at(heap, at)
-}
-
-// A number as a row of a table that has it.
-fn some_row(tables: &Tables, table: u8, row: u32) -> Option<u32>
-    ensures { result ≡ some_row tables.now table row }
-{
-    (1 <= row && row <= tables.rows(table)).then_some(row)
 }
 
 // The types of locals in the signature of a row, where it is one of locals.

@@ -4,12 +4,9 @@ ghost use Rattle.px_meta.specs.Faults.{IsFaultless};
 ghost use Rattle.px_meta.specs.Overriding.{Overrides};
 ghost use Rattle.px_meta.specs.Rows.{IsRow, count_of, methods};
 
-use px_meta::Meta;
+use px_meta::{METHODS, Meta};
 use std::alloc::{AllocError, Global};
 use std::marker::Model;
-
-// The number of the table of methods.
-const METHODS: u8 = 0x06;
 
 /// For each method of an assembly, the method that it overrides at once, where it overrides one.
 #[derive(Drop)]

@@ -8,7 +8,7 @@ use Rattle.px_link.specs.Link.{IsEntry, IsFound, first_unfit, has_maker, maker_o
 use Rattle.px_operands.specs.Operands.{is_there}
 use Rattle.px_sig.specs.declared.sig.MethodSig.{MethodSig}
 use Rattle.px_relink.specs.Again.{Again, method_for}
-use Rattle.px_relink.specs.Describes.{IsTypeOf}
+use Rattle.px_described.specs.Describes.{IsTypeOf}
 use Rattle.px_relink.specs.Linked.{entry_name}
 use Rattle.px_relink.proofs.EntryArguments.{fit_again}
 use Rattle.px_relink.proofs.EntryMaker.{entry_maker, has_body_again}

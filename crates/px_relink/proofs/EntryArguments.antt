@@ -19,7 +19,7 @@ use Rattle.px_types.specs.declared.key.Key.{Key}
 use Rattle.px_types.specs.declared.key.Leaf.{Leaf}
 use Rattle.px_types.specs.declared.key.Leaf.TheVariants.{Number, Library, Defined}
 use Rattle.px_relink.specs.Again.{Again, key_for}
-use Rattle.px_relink.specs.Describes.{IsTypeOf}
+use Rattle.px_described.specs.Describes.{IsTypeOf}
 use Rattle.px_relink.proofs.TypesAgain.{type_reads}
 
 -- LAYERS

@@ -8,7 +8,7 @@ use Rattle.std.proofs.lemmas.Bool.{cases_eq, cases_order, cond-true, cond_both, 
 use Rattle.std.proofs.lemmas.Option.{same_Some}
 use Rattle.px_code.specs.Reading.{Fault}
 use Rattle.px_link.proofs.Making.{find_first}
-use Rattle.px_link.proofs.Places.{found_passes}
+use Rattle.px_methods.proofs.RowPlaces.{found_passes}
 use Rattle.px_link.specs.Link.{is_maker, is_nil, maker_in, maker_of, rows_of, takes_nothing}
 use Rattle.px_meta.specs.Members.{owner_of}
 use Rattle.px_meta.specs.Rows.{IsRow, cell, count_of, methods, rows_in, text_at}
@@ -23,7 +23,7 @@ use Rattle.px_reach.specs.declared.body.Whole.{Whole}
 use Rattle.px_sig.specs.declared.sig.MethodSig.{MethodSig}
 use Rattle.px_types.specs.Keys.{is_class}
 use Rattle.px_relink.specs.Again.{Again, first_numbers, keys_for, method_for, type_for}
-use Rattle.px_relink.specs.Describes.{IsCodeRow}
+use Rattle.px_described.specs.Describes.{IsCodeRow}
 use Rattle.px_relink.proofs.EntryNames.{names_again}
 use Rattle.px_relink.proofs.EntryPlain.{IsMakerIn, maker_found, reached_plain}
 use Rattle.px_relink.proofs.MethodBodies.{nothing_made, read_empty}

@@ -7,11 +7,11 @@ use Rattle.std.proofs.lemmas.Bool.{and_parts, cases_Bool, cond_both, or_cases}
 use Rattle.std.proofs.lemmas.Option.{same_Some, slice_get-get_or}
 use Rattle.px_code.specs.Reading.{Fault}
 use Rattle.px_code.specs.declared.body.RawInstr.{RawInstr}
-use Rattle.px_link.proofs.Places.{found_passes, one_of_each}
+use Rattle.px_methods.proofs.RowPlaces.{found_passes, one_of_each}
 use Rattle.px_link.specs.Link.{is_maker, is_nil, maker_in, maker_of, rows_of, starts_of, takes_nothing}
 use Rattle.px_meta.specs.Members.{method_sig_at, owner_of}
 use Rattle.px_meta.specs.Overriding.{Behind, Here, IsNearest, MayOverride, Overrides}
-use Rattle.px_meta.specs.Rows.{cell, member_refs, methods, rows_in, some_row, text_at}
+use Rattle.px_meta.specs.Rows.{cell, is_in, member_refs, methods, rows_in, some_row, text_at}
 use Rattle.px_meta.specs.Tokens.{row_in, table_in}
 use Rattle.px_methods.specs.Methods.{sig_at}
 use Rattle.px_operands.specs.Operands.{Called, CalledVirtually, Made, Way, callee_at, check_in, check_of, check_operand, constructor_of, constructor_with, each_known, is_run, is_void, library_by, library_constructor, library_in, may_be_called, may_take, method_by, method_in, operand_of, parent_ref, reference_in, virtual_at, ◌else◌}
@@ -24,7 +24,7 @@ use Rattle.px_reach.proofs.Owned.{no_target, owned_operand}
 use Rattle.px_reach.proofs.Sets.{in_once}
 use Rattle.px_reach.specs.Bodies.{whole_at}
 use Rattle.px_reach.specs.Finding.{is_call}
-use Rattle.px_reach.specs.Met.{IsOwned, calls_at, calls_of, each_once, in_body, is_in, method_in as named_method, operand_at, target_of, with_overriders}
+use Rattle.px_reach.specs.Met.{IsOwned, calls_at, calls_of, each_once, in_body, method_in as named_method, operand_at, target_of, with_overriders}
 use Rattle.px_reach.specs.Overriders.{AreLists, AreOverriders, Directly, OverridesThrough, Through, overriders_in}
 use Rattle.px_reach.specs.declared.body.Whole.{Whole}
 use Rattle.px_sig.specs.declared.sig.MethodSig.{MethodSig}

@@ -6,7 +6,7 @@ use Rattle.std.specs.Option.{option_map}
 use Rattle.std.proofs.lemmas.Bool.{and_from, and_parts, cond-false, cond-true, cond_both, ne_eqb, not-true, or_right}
 use Rattle.std.proofs.lemmas.Option.{same_Some, slice_get-map}
 use Rattle.px_meta.specs.Members.{field_sig_at, owner_of}
-use Rattle.px_meta.specs.Rows.{IsRow, cell, count_of, fields, rows_in, some_row}
+use Rattle.px_meta.specs.Rows.{IsRow, cell, count_of, fields, is_in, rows_in, some_row}
 use Rattle.px_meta.specs.Tokens.{row_in, table_in}
 use Rattle.px_methods.specs.Codes.{field_among, place_of}
 use Rattle.px_operands.specs.Operands.{field_at, field_in, has_initialiser, is_field, is_owned, is_there, operand_of, read_form}
@@ -16,7 +16,7 @@ use Rattle.px_program.specs.declared.instr.Code.TheVariants as code
 use Rattle.px_program.specs.declared.instr.Field.{Field}
 use Rattle.px_program.specs.declared.program.Place.{Place}
 use Rattle.px_program.specs.declared.program.TypeInfo.{TypeInfo}
-use Rattle.px_reach.specs.Met.{is_in}
+use Rattle.px_relink.proofs.TypeReads.{some_row_is}
 use Rattle.px_sig.specs.declared.sig.SigType.{SigType}
 use Rattle.px_tables.specs.Metadata.{View}
 use Rattle.px_types.specs.declared.key.Key.{Key}
@@ -32,12 +32,12 @@ use Rattle.px_types.proofs.There.{row_there}
 use Rattle.px_link.proofs.LinkedOperands.{IsMet as IsMetWith}
 use Rattle.px_link.proofs.LinkedProgram.{has_numbered}
 use Rattle.px_link.proofs.LinkedTypes.{defined_type}
-use Rattle.px_link.proofs.Places.{at_place_of, beside, in_instance_fields, in_static_fields}
+use Rattle.px_methods.proofs.RowPlaces.{at_place_of, beside, in_instance_fields, in_static_fields}
 use Rattle.px_relink.specs.Again.{Again, first_numbers, key_for, keys_for, type_for}
-use Rattle.px_relink.specs.Describes.{IsFieldRow, NamesField}
+use Rattle.px_described.specs.Describes.{IsFieldRow, NamesField}
 use Rattle.px_relink.proofs.InstrInitialisers.{no_initialiser}
 use Rattle.px_relink.proofs.InstrOperands.{StandsWith}
-use Rattle.px_relink.proofs.InstrTypes.{own_numbered, some_row_is}
+use Rattle.px_relink.proofs.InstrTypes.{own_numbered}
 use Rattle.px_relink.proofs.TypesAgain.{IsMet, same_number, type_reads, type_stands}
 
 -- LISTS OF ROWS

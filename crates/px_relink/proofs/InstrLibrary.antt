@@ -13,6 +13,7 @@ use Rattle.px_operands.specs.declared.operand.Operand.TheVariants as operand
 use Rattle.px_program.specs.declared.instr.Callee.TheVariants as callees
 use Rattle.px_program.specs.declared.instr.Check.{Check}
 use Rattle.px_program.specs.declared.instr.Code.TheVariants as code
+use Rattle.px_relink.proofs.TypeReads.{some_row_is}
 use Rattle.px_sig.specs.declared.sig.Integer.TheVariants as integers
 use Rattle.px_sig.specs.declared.sig.MethodSig.{MethodSig}
 use Rattle.px_sig.specs.declared.sig.SigType.{SigType, Int}
@@ -24,10 +25,9 @@ use Rattle.px_types.specs.declared.key.Leaf.TheVariants.{Number, Library, Define
 use Rattle.px_types.specs.Making.{AreNumberedIn}
 use Rattle.px_types.specs.Numbers.{place_in}
 use Rattle.px_relink.specs.Again.{Again, key_for, keys_for, leaf_for}
-use Rattle.px_relink.specs.Describes.{IsTypeOf, NamesCheck, NamesConstructor, NamesReference}
+use Rattle.px_described.specs.Describes.{IsTypeOf, NamesCheck, NamesConstructor, NamesReference}
 use Rattle.px_relink.proofs.InstrMethods.{call_stands, make_stands, virtual_stands, void_is_void}
 use Rattle.px_relink.proofs.InstrOperands.{StandsWith}
-use Rattle.px_relink.proofs.InstrTypes.{some_row_is}
 use Rattle.px_relink.proofs.TypesAgain.{same_place, type_reads}
 use denote.Hole.Carrier
 

@@ -19,6 +19,7 @@ use Rattle.px_program.specs.declared.instr.Instr.{Instr}
 use Rattle.px_program.specs.declared.program.Method.{Method}
 use Rattle.px_program.specs.declared.program.Place.{Place}
 use Rattle.px_program.specs.declared.program.Program.{Program}
+use Rattle.px_relink.proofs.TypeReads.{some_row_is}
 use Rattle.px_sig.specs.declared.sig.MethodSig.{MethodSig}
 use Rattle.px_sig.specs.declared.sig.SigType.{SigType, Void}
 use Rattle.px_sig.specs.declared.sig.SigType as variants
@@ -29,13 +30,12 @@ use Rattle.px_types.specs.Making.{AreNumberedIn}
 use Rattle.px_types.specs.Numbers.{is_numbered}
 use Rattle.px_types.proofs.Closed.{each-back, each-front, grows}
 use Rattle.px_link.proofs.LinkedOperands.{HasLinked, has_code, same_sig, some_body}
-use Rattle.px_link.proofs.Places.{at_place_of, at_zip, each_in, each_of_flat_map}
+use Rattle.px_methods.proofs.RowPlaces.{at_place_of, at_zip, each_in, each_of_flat_map}
 use Rattle.px_relink.specs.Again.{Again, first_numbers, key_for, method_for, methods_for, type_for}
-use Rattle.px_relink.specs.Describes.{IsCodeRow, IsReturnOf, IsTypeOf, NamesMethod}
+use Rattle.px_described.specs.Describes.{IsCodeRow, IsReturnOf, IsTypeOf, NamesMethod}
 use Rattle.px_relink.proofs.InstrFields.{owned_again}
 use Rattle.px_relink.proofs.InstrInitialisers.{no_initialiser}
 use Rattle.px_relink.proofs.InstrOperands.{StandsWith}
-use Rattle.px_relink.proofs.InstrTypes.{some_row_is}
 use Rattle.px_relink.proofs.Standing.{IsReachedRow, method_stands, methods_apart}
 use Rattle.px_relink.proofs.TypesAgain.{IsMet, type_reads}
 use denote.Hole.Carrier

@@ -10,7 +10,7 @@ use Rattle.px_reach.specs.Met.{method_in}
 use Rattle.px_recode.specs.Recoding.{token_opcode}
 use Rattle.px_link.proofs.LinkedOperands.{IsMet}
 use Rattle.px_relink.specs.Again.{Again, first_numbers, keys_for, methods_for, numbers_for}
-use Rattle.px_relink.specs.Describes.{Names}
+use Rattle.px_described.specs.Describes.{Names}
 
 -- the operand of an instruction with this opcode and token, which stands for one of the first assembly
 pub record HasNamed (a : Again) (opcode : ℕ) (o : Operand) (token : ℕ) : Type 0 where

@@ -1,11 +1,11 @@
 -- Texts and types that tokens name, read again.
 use Rattle.std.proofs.Common.{◌≡◌, ℕ, zero, suc, ◌+◌, ◌%◌, ◌^◌, ◌<◌, Bool, true, false, List, length, Option, Some, None, refl, sym, ap, ◌∙◌, subst, arith, rules, eq-eqb}
-use Rattle.std.specs.Prelude.{◌==◌, ◌&&◌, nat_lt, nat_le, if◌then◌else◌}
+use Rattle.std.specs.Prelude.{◌==◌, ◌&&◌, nat_lt, if◌then◌else◌}
 use Rattle.std.specs.List.{AllByRecursion}
-use Rattle.std.proofs.lemmas.Bool.{and_from, and_left, cond-true, cond_both, le-leb, ltb-true, ne_eqb}
+use Rattle.std.proofs.lemmas.Bool.{and_left, cond-true, cond_both, ltb-true, ne_eqb}
 use Rattle.std.proofs.lemmas.Option.{same_Some}
 use Rattle.px_blobs.specs.Items.{blob_at}
-use Rattle.px_meta.specs.Rows.{IsRow, count_of, some_row, type_specs}
+use Rattle.px_meta.specs.Rows.{some_row, type_specs}
 use Rattle.px_meta.specs.Tokens.{row_in, table_in}
 use Rattle.px_operands.specs.Operands.{element_at, operand_of, read_known, spec_in, text_at_token, text_of, type_at, type_only, type_operand, units_of}
 use Rattle.px_operands.specs.declared.operand.Operand.TheVariants as operand
@@ -15,7 +15,6 @@ use Rattle.px_program.specs.declared.instr.ElementForm.TheVariants as form
 use Rattle.px_program.specs.declared.program.Place.{Place}
 use Rattle.px_program.specs.declared.program.Place.TheVariants as places
 use Rattle.px_program.specs.declared.program.TypeInfo.{TypeInfo}
-use Rattle.px_tables.specs.Metadata.{View}
 use Rattle.px_types.specs.declared.key.Key.{Key}
 use Rattle.px_types.specs.declared.key.Leaf.{Leaf}
 use Rattle.px_types.specs.declared.key.Leaf.TheVariants.{Number, Library, Defined}
@@ -29,12 +28,10 @@ use Rattle.px_link.proofs.LinkedOperands.{IsType}
 use Rattle.px_link.proofs.LinkedProgram.{has_numbered}
 use Rattle.px_link.proofs.LinkedTypes.{StandsFor, type_of}
 use Rattle.px_relink.specs.Again.{Again, key_for, leaf_for}
-use Rattle.px_relink.specs.Describes.{HasElement, Spells}
+use Rattle.px_described.specs.Describes.{HasElement, Spells}
 use Rattle.px_relink.proofs.InstrOperands.{StandsWith}
+use Rattle.px_relink.proofs.TypeReads.{some_row_is}
 use Rattle.px_relink.proofs.TypesAgain.{same_number, same_place, type_reads}
-
-pub some_row_is : (v : View) (table row : ℕ) → IsRow v table row → some_row v table row ≡ Some row
-some_row_is v table row is = cond-true (nat_le 1 row && nat_le row (count_of v table)) (Some row) None (and_from (nat_le 1 row) (nat_le row (count_of v table)) (le-leb 1 row is.some) (le-leb row (count_of v table) is.few))
 
 -- the own types of each key that has a number have numbers
 pub own_numbered : (a : Again) (key : Key) → has_key a.reads.keys key ≡ true → AreNumberedIn a.reads.keys (own_types a.first key)

@@ -4,6 +4,7 @@ use Rattle.std.specs.Prelude.{◌==◌, ◌||◌, if◌then◌else◌}
 use Rattle.std.specs.List.{AllByRecursion}
 use Rattle.std.proofs.lemmas.Bool.{cond-false, cond_both}
 use Rattle.px_code.specs.declared.body.RawInstr.{RawInstr}
+use Rattle.px_meta.specs.Rows.{is_in}
 use Rattle.px_methods.specs.Codes.{IsCode, IsInstr, IsTokenCode, code_with}
 use Rattle.px_methods.specs.Methods.{keys_of_instr, keys_of_operand}
 use Rattle.px_methods.specs.Slots.{Forms, is_barred}
@@ -13,13 +14,13 @@ use Rattle.px_operands.specs.declared.operand.Operand.{Operand}
 use Rattle.px_program.specs.declared.instr.Code.{Code}
 use Rattle.px_program.specs.declared.instr.Code.TheVariants as codes
 use Rattle.px_program.specs.declared.instr.Instr.{Instr}
-use Rattle.px_reach.specs.Met.{is_in, method_in, operand_at, target_of}
+use Rattle.px_reach.specs.Met.{method_in, operand_at, target_of}
 use Rattle.px_recode.specs.Recoding.{Does, HasToken, token_opcode}
 use Rattle.px_tables.specs.Metadata.{View}
 use Rattle.px_types.specs.Making.{AreNumberedIn}
 use Rattle.px_link.proofs.LinkedOperands.{IsMet, type_type}
 use Rattle.px_relink.specs.Again.{Again, first_numbers, keys_for, methods_for, numbers_for}
-use Rattle.px_relink.specs.Describes.{IsInstrOf, Names}
+use Rattle.px_described.specs.Describes.{IsInstrOf, Names}
 use Rattle.px_relink.specs.Linked.{is_run}
 use Rattle.px_relink.proofs.InstrFields.{get_field_stands, get_static_stands, set_field_stands, set_static_stands}
 use Rattle.px_relink.proofs.InstrLibrary.{callee_called, callee_made, callee_virtual}

@@ -26,7 +26,6 @@ pub mod OverridingTypes
 pub mod ReachedMaps
 pub mod Standing
 pub mod StandingOwned
-pub mod StandingPlaces
 pub mod TypeBases
 pub mod TypeKeys
 pub mod TypeMet

@@ -4,14 +4,15 @@ use Rattle.std.specs.Prelude.{◌==◌, if◌then◌else◌, slice_get}
 use Rattle.std.specs.List.{AllByRecursion}
 use Rattle.std.specs.Option.{option_map}
 use Rattle.std.proofs.lemmas.Option.{same_Some, slice_get-map}
-use Rattle.px_link.proofs.Places.{each_in}
+use Rattle.px_methods.proofs.RowPlaces.{each_in}
 use Rattle.px_link.specs.Link.{Reads, maker_number, maker_of, rows_of, starts_of}
 use Rattle.px_link.specs.Overrides.{AreLinkedTypes, IsLinkedType}
+use Rattle.px_meta.specs.Rows.{is_in}
 use Rattle.px_methods.specs.Codes.{place_of}
 use Rattle.px_program.specs.declared.program.TypeInfo.{TypeInfo}
 use Rattle.px_reach.proofs.Reaching.{starts_met}
 use Rattle.px_reach.specs.Finding.{AreIn}
-use Rattle.px_reach.specs.Met.{IsReached, is_in}
+use Rattle.px_reach.specs.Met.{IsReached}
 use Rattle.px_types.proofs.Known.{has_at}
 use Rattle.px_types.specs.Numbers.{Numbers, library_keys}
 use Rattle.px_types.specs.declared.key.Key.{Key}

@@ -4,10 +4,10 @@ use Rattle.std.specs.Prelude.{◌==◌, slice_get}
 use Rattle.std.specs.List.{AllByRecursion, AllZip, flat_map, zip}
 use Rattle.std.proofs.lemmas.Bool.{cases_eq, cond-true}
 use Rattle.px_code.specs.Reading.{Fault}
-use Rattle.px_link.proofs.Places.{at_place_of, at_zip, each_of_flat_map}
+use Rattle.px_methods.proofs.RowPlaces.{at_place_of, at_zip, each_of_flat_map}
 use Rattle.px_link.proofs.Reached.{targets_in}
 use Rattle.px_link.specs.Link.{starts_of}
-use Rattle.px_meta.specs.Rows.{cell, methods}
+use Rattle.px_meta.specs.Rows.{cell, is_in, methods}
 use Rattle.px_methods.specs.Codes.{IsInstr, place_of}
 use Rattle.px_methods.specs.Methods.{IsMethod, keys_of_body, keys_of_clause, keys_of_instr, keys_of_sig, met_by, sig_at}
 use Rattle.px_methods.specs.Slots.{forms_of}
@@ -18,7 +18,7 @@ use Rattle.px_program.specs.declared.program.Method.{Method}
 use Rattle.px_reach.proofs.Reaching.{target_met}
 use Rattle.px_reach.specs.Bodies.{no_body, whole_at}
 use Rattle.px_reach.specs.Finding.{AreIn}
-use Rattle.px_reach.specs.Met.{IsBody, is_in, target_of, virtual_target_of}
+use Rattle.px_reach.specs.Met.{IsBody, target_of, virtual_target_of}
 use Rattle.px_reach.specs.declared.body.Whole.{Whole}
 use Rattle.px_sig.specs.declared.sig.MethodSig.{MethodSig}
 use Rattle.px_tables.specs.Metadata.{View}
@@ -28,7 +28,7 @@ use Rattle.px_types.specs.Making.{AreNumberedIn}
 use Rattle.px_types.specs.Numbers.{is_numbered}
 use Rattle.px_types.specs.declared.key.Key.{Key}
 use Rattle.px_relink.specs.Again.{Again, first_numbers, method_for}
-use Rattle.px_relink.specs.Describes.{HasBody, IsCodeRow, IsInstrOf, IsTypeOf, raw_clause}
+use Rattle.px_described.specs.Describes.{HasBody, IsCodeRow, IsInstrOf, IsTypeOf, raw_clause}
 use Rattle.px_relink.specs.Linked.{is_run}
 use Rattle.px_relink.proofs.Standing.{HasMethodFor, IsReachedRow}
 

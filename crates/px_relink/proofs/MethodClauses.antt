@@ -26,7 +26,7 @@ use Rattle.px_types.proofs.Closed.{grows}
 use Rattle.px_types.proofs.Formed.{has_by}
 use Rattle.px_types.proofs.Places.{library_length}
 use Rattle.px_relink.specs.Again.{Again, key_for, keys_for, leaf_for, type_for}
-use Rattle.px_relink.specs.Describes.{class_token, flags_of, raw_clause}
+use Rattle.px_described.specs.Describes.{class_token, flags_of, raw_clause}
 use Rattle.px_relink.proofs.TypesAgain.{same_number, type_stands}
 
 -- TOKENS OF CLASSES

@@ -12,7 +12,7 @@ use Rattle.px_reach.specs.Finding.{AreIn}
 use Rattle.px_reach.specs.Met.{calls_of, target_of, virtual_target_of, with_overriders}
 use Rattle.px_types.specs.Making.{AreNumberedIn}
 use Rattle.px_relink.specs.Again.{Again, first_numbers, key_for, keys_for, method_for, methods_for, numbers_for}
-use Rattle.px_relink.specs.Describes.{IsInstrOf}
+use Rattle.px_described.specs.Describes.{IsInstrOf}
 use Rattle.px_relink.specs.Linked.{is_run}
 use Rattle.px_relink.proofs.InstrsAgain.{BarsNothing, instr_again}
 use Rattle.px_relink.proofs.OverridingAgain.{lists_for, overriders_again}

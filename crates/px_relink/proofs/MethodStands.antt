@@ -23,7 +23,7 @@ use Rattle.px_types.specs.Numbers.{number_of}
 use Rattle.px_types.specs.declared.key.Key.{Key}
 use Rattle.px_types.specs.declared.key.Leaf.TheVariants.{Defined}
 use Rattle.px_relink.specs.Again.{Again, key_for, keys_for, method_for, methods_for, numbers_for, type_for}
-use Rattle.px_relink.specs.Describes.{IsReturnOf, IsTypeOf, arguments_of, raw_clause}
+use Rattle.px_described.specs.Describes.{IsReturnOf, IsTypeOf, arguments_of, raw_clause}
 use Rattle.px_relink.proofs.MethodBodies.{HasBodyFor, all_called, all_met, all_named, all_run, body_for, numbered_parts}
 use Rattle.px_relink.proofs.MethodClauses.{AreClausesAgain, clauses_again}
 use Rattle.px_relink.proofs.MethodCodes.{AreCodesAgain, all_calls, all_virtual, codes_again}

@@ -22,7 +22,7 @@ use Rattle.px_types.specs.Making.{AreNumberedIn}
 use Rattle.px_types.specs.Numbers.{is_numbered, place_in}
 use Rattle.px_types.specs.declared.key.Key.{Key}
 use Rattle.px_relink.specs.Again.{Again, key_for, keys_for}
-use Rattle.px_relink.specs.Describes.{IsArray, IsNumber, IsObject, IsOther, IsReturnOf, IsText, IsTypeOf, class_token}
+use Rattle.px_described.specs.Describes.{IsArray, IsNumber, IsObject, IsOther, IsReturnOf, IsText, IsTypeOf, class_token}
 use Rattle.px_relink.proofs.InstrsAgain.{BarsNothing}
 use Rattle.px_relink.proofs.TypesAgain.{same_place, type_reads}
 

@@ -7,8 +7,9 @@ use Rattle.std.proofs.lemmas.List.{length-map, map-append, take-map, take_all}
 use Rattle.std.proofs.lemmas.Option.{same_Some, slice_get-map}
 use Rattle.px_code.specs.Reading.{Fault}
 use Rattle.px_link.proofs.LinkedProgram.{same_count}
-use Rattle.px_link.proofs.Places.{each_in, in_at}
+use Rattle.px_methods.proofs.RowPlaces.{each_in, in_at, zip_at}
 use Rattle.px_link.specs.Link.{starts_of}
+use Rattle.px_meta.specs.Rows.{is_in}
 use Rattle.px_methods.specs.Codes.{place_of}
 use Rattle.px_methods.specs.Methods.{AreMethods, IsMethod, met_by, met_by_all}
 use Rattle.px_program.specs.declared.program.Method.{Method}
@@ -16,14 +17,15 @@ use Rattle.px_reach.proofs.Reaching.{overriders_met, rows_apart}
 use Rattle.px_reach.proofs.Sets.{added_in, all_added}
 use Rattle.px_reach.specs.Bodies.{no_body, whole_at}
 use Rattle.px_reach.specs.Finding.{AreIn}
-use Rattle.px_reach.specs.Met.{IsBody, IsReached, calls_at, each_once, is_in, virtual_targets_at}
+use Rattle.px_reach.specs.Met.{IsBody, IsReached, calls_at, each_once, virtual_targets_at}
 use Rattle.px_reach.specs.declared.body.Whole.{Whole}
 use Rattle.px_reach.specs.declared.methods.Reached.{Reached}
+use Rattle.px_relink.proofs.OverridingLists.{mapped_there}
 use Rattle.px_relink.specs.Again.{Again, key_for, keys_for, method_for, methods_for, numbers_for}
 use Rattle.px_relink.proofs.MethodCodes.{flat_map_for}
 use Rattle.px_relink.proofs.MethodStands.{IsMethodAgain, method_again}
 use Rattle.px_relink.proofs.OverridingAgain.{lists_for}
-use Rattle.px_relink.proofs.ReachedMaps.{mapped_in, once_for, place_at, zip-maps, zip_by, zip_each, zip_map}
+use Rattle.px_relink.proofs.ReachedMaps.{once_for, place_at, zip-maps, zip_each, zip_map}
 use Rattle.px_relink.proofs.Standing.{IsReachedRow}
 
 abbrev body_read : Result Whole Fault → Whole
@@ -74,7 +76,7 @@ pub methods_again : (a : Again) → AreMethods a.v (numbers_for a) (bodies_for a
 methods_again a =
     subst (λ l. AllZip (Made a) l a.p.methods) (sym (pairs_for a))
     (zip_map (Made a) (λ row. (method_for a row, body_at a row)) a.reads.reached.rows a.p.methods
-    (zip_by (λ row method. Made a (method_for a row, body_at a row) method) a.reads.reached.rows a.p.methods
+    (zip_at (λ row method. Made a (method_for a row, body_at a row) method) a.reads.reached.rows a.p.methods
     (same_count a.first a.from (record { keys = a.reads.keys; rows = a.reads.reached.rows }) a.reads.reached.bodies a.p a.reads.is_reached.bodies a.reads.methods)
     (λ k row method at method_at. made_at a k row method at method_at)))
 
@@ -166,7 +168,7 @@ earlier_again a k row at =
     subst (λ l. is_in (methods_for a (starts a) ++ flat_map (calls_for a) l) row ≡ true) (sym taken)
     (subst (λ l. is_in l row ≡ true) (sym (called_by a front reached))
     (subst (λ r. is_in (methods_for a (starts a ++ flat_map (calls a) front)) r ≡ true) from.is
-    (mapped_in (method_for a) (starts a ++ flat_map (calls a) front) from.first (a.reads.is_reached.met.earlier k from.first from.at))))
+    (mapped_there (method_for a) (starts a ++ flat_map (calls a) front) from.first (a.reads.is_reached.met.earlier k from.first from.at))))
 
 targets_reached : (a : Again) → AreIn a.reads.reached.rows (flat_map (virtual_targets_at a.first a.from) a.reads.reached.rows)
 targets_reached a =

@@ -12,16 +12,15 @@ use Rattle.px_link.specs.Link.{starts_of}
 use Rattle.px_link.specs.Overrides.{AreOverrides, first_of, nearest, or_later, pair_of, pairs_of}
 use Rattle.px_link.proofs.Finding.{item_at}
 use Rattle.px_link.proofs.LinkedBases.{all_apart, number_at}
-use Rattle.px_link.proofs.Places.{at_place_of, each_in, found_in, in_at, one_of_each, place_below}
+use Rattle.px_methods.proofs.RowPlaces.{at_place_of, each_in, found_in, in_at, in_filter, one_of_each, place_at_once, place_below, zip_at}
 use Rattle.px_link.proofs.Reached.{distinct}
 use Rattle.px_meta.specs.Chains.{GoesOn, IsChain, base_in}
 use Rattle.px_meta.specs.Members.{owner_of}
-use Rattle.px_meta.specs.Rows.{methods}
+use Rattle.px_meta.specs.Rows.{is_in, methods}
 use Rattle.px_methods.specs.Codes.{place_of}
 use Rattle.px_program.specs.declared.program.Slot.{Slot}
 use Rattle.px_program.proofs.Types.{each-weaken}
 use Rattle.px_reach.proofs.Reaching.{overriders_met}
-use Rattle.px_reach.specs.Met.{is_in}
 use Rattle.px_reach.specs.Overriders.{AreLists, AreOverriders, Directly, IsBefore, OverridesThrough, overriders_in}
 use Rattle.px_types.specs.Keys.{alone}
 use Rattle.px_types.specs.Numbers.{has_key, number_of}
@@ -30,10 +29,9 @@ use Rattle.px_types.specs.declared.key.Leaf.{Leaf}
 use Rattle.px_types.specs.declared.key.Leaf.TheVariants.{Number, Library, Defined}
 use Rattle.px_relink.specs.Again.{Again, first_numbers, key_for, keys_for, leaf_for, method_for, methods_for, numbers_for, type_for}
 use Rattle.px_relink.proofs.OverridingBoth.{comes_from, here_too, leads_on, nearest_among, said_again, there_too, through_may}
-use Rattle.px_relink.proofs.OverridingLists.{all_kept, each_mapped, found_mapped, joined_mapped, kept_passes, kept_there, mapped_there, pairs_mapped, rises_by_place, same_place, same_test}
+use Rattle.px_relink.proofs.OverridingLists.{all_kept, each_mapped, found_mapped, joined_mapped, kept_passes, mapped_there, pairs_mapped, rises_by_place, same_place, same_test}
 use Rattle.px_relink.proofs.OverridingOrder.{before_again}
 use Rattle.px_relink.proofs.Standing.{IsReachedRow, all_stand, method_stands, methods_apart}
-use Rattle.px_relink.proofs.StandingPlaces.{place_at_once, zip_at}
 use Rattle.px_relink.proofs.TypesAgain.{IsMet, base_met, chain_again, types_apart}
 
 -- LISTS
@@ -79,7 +77,7 @@ list_again a row reached =
       all = λ other through.
           let stands = all_stand a other (through_may a.v other (method_for a row) through).row in
           let here = here_too a stands.other row stands.reached reached (subst (λ m. OverridesThrough a.v m (method_for a row)) stands.is through) in
-          subst (λ m. is_in (list_for a row) m ≡ true) (sym stands.is) (mapped_there (method_for a) (filter among all) stands.other (kept_there among all stands.other stands.reached (list.all stands.other here)));
+          subst (λ m. is_in (list_for a row) m ≡ true) (sym stands.is) (mapped_there (method_for a) (filter among all) stands.other (in_filter among all stands.other stands.reached (list.all stands.other here)));
       order = pairs_mapped (IsBefore a.first) (IsBefore a.v) (method_for a) (filter among all)
           (λ m n there later_there before. before_again a m n (kept_passes among all m there).0 (kept_passes among all n later_there).0 before)
           (AllPairs-filter (IsBefore a.first) among all list.order);

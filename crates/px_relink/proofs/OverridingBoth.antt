@@ -6,24 +6,22 @@ use Rattle.std.proofs.lemmas.Bool.{true≢false}
 use Rattle.std.proofs.lemmas.Option.{same_Some}
 use Rattle.px_link.specs.Layout.{Behind, Nearest, Nothing, OverridesAmong, number_among}
 use Rattle.px_link.proofs.LinkedOperands.{same_sig}
-use Rattle.px_link.proofs.Places.{at_place_of, place_below}
+use Rattle.px_methods.proofs.RowPlaces.{at_place_of, place_below, placed_at}
 use Rattle.px_meta.proofs.Overridden.{one_overridden, overrides_may}
 use Rattle.px_meta.specs.Members.{owner_of}
 use Rattle.px_meta.specs.Overriding as said
 use Rattle.px_meta.specs.Overriding.{Derives, MayOverride, Overrides}
-use Rattle.px_meta.specs.Rows.{methods}
+use Rattle.px_meta.specs.Rows.{is_in, methods}
 use Rattle.px_methods.specs.Codes.{place_of}
 use Rattle.px_methods.specs.Methods.{place_of_type, return_place}
 use Rattle.px_program.specs.declared.program.Slot.{Slot}
-use Rattle.px_reach.specs.Met.{is_in}
 use Rattle.px_reach.specs.Overriders.{Directly, OverridesThrough, Through}
 use Rattle.px_sig.specs.declared.sig.MethodSig.{MethodSig}
 use Rattle.px_tables.specs.Metadata.{View}
 use Rattle.px_relink.specs.Again.{Again, first_numbers, method_for, type_for}
-use Rattle.px_relink.specs.Describes.{IsImpl, method_row}
+use Rattle.px_described.specs.Describes.{IsImpl, method_row}
 use Rattle.px_relink.proofs.OverridingTypes.{arguments_are, one_sig}
 use Rattle.px_relink.proofs.Standing.{IsReachedRow, method_stands, methods_apart}
-use Rattle.px_relink.proofs.StandingPlaces.{placed_at}
 use Rattle.px_relink.proofs.TypesAgain.{derives_again}
 
 -- IN ONE ASSEMBLY

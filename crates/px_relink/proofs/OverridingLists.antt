@@ -6,10 +6,10 @@ use Rattle.std.specs.Option.{option_map}
 use Rattle.std.proofs.lemmas.Bool.{cond-true, cond_both, eqb-false, ne_eqb, or_cases, or_left, or_right}
 use Rattle.std.proofs.lemmas.List.{get_or-map, length-map}
 use Rattle.std.proofs.lemmas.Option.{slice_get-get_or}
+use Rattle.px_meta.specs.Rows.{is_in}
 use Rattle.px_methods.specs.Codes.{place_of}
 use Rattle.px_program.proofs.Types.{each_at}
-use Rattle.px_reach.specs.Met.{is_in}
-use Rattle.px_relink.proofs.StandingPlaces.{place_at_once}
+use Rattle.px_methods.proofs.RowPlaces.{place_at_once}
 
 -- what is kept passes, and was there
 pub kept_passes : (p : ℕ → Bool) (xs : List ℕ) (x : ℕ) → is_in (filter p xs) x ≡ true → (p x ≡ true) × (is_in xs x ≡ true)
@@ -23,19 +23,6 @@ kept_passes p (y ∷ xs) x there =
     (or_cases (y == x) (is_in (filter p xs) x) is))
     (λ fails is. let rest = kept_passes p xs x is in (rest.0, or_right (y == x) (is_in xs x) rest.1))
     there
-
-pub kept_there : (p : ℕ → Bool) (xs : List ℕ) (x : ℕ) → p x ≡ true → is_in xs x ≡ true → is_in (filter p xs) x ≡ true
-kept_there p [] x passes there = absurd (cc)
-kept_there p (y ∷ xs) x passes there =
-    ⊎_elim
-    (λ same.
-    let e : y ≡ x = eqb-true y x same in
-    subst (λ l. is_in l x ≡ true) (sym (cond-true (p y) (y ∷ filter p xs) (filter p xs) (subst (λ z. p z ≡ true) (sym e) passes))) (or_left (y == x) (is_in (filter p xs) x) same))
-    (λ later.
-    cond_both (p y) (y ∷ filter p xs) (filter p xs) (λ l. is_in l x ≡ true)
-    (λ kept. or_right (y == x) (is_in (filter p xs) x) (kept_there p xs x passes later))
-    (λ dropped. kept_there p xs x passes later))
-    (or_cases (y == x) (is_in xs x) there)
 
 -- where all pass, all are kept
 pub all_kept : (p : ℕ → Bool) (xs : List ℕ) → AllByRecursion (λ x. p x ≡ true) xs → filter p xs ≡ xs

@@ -28,7 +28,7 @@ use Rattle.px_types.specs.declared.key.Key.{Key}
 use Rattle.px_types.specs.declared.key.Leaf.TheVariants.{Library}
 use Rattle.px_types.proofs.Closed.{grows}
 use Rattle.px_relink.specs.Again.{Again}
-use Rattle.px_relink.specs.Describes.{HasElement, IsArray, IsClass, IsNumber, IsObject, IsOther, IsReturnOf, IsSigOf, IsText, IsTypeOf, arguments_of, class_token}
+use Rattle.px_described.specs.Describes.{HasElement, IsArray, IsClass, IsNumber, IsObject, IsOther, IsReturnOf, IsSigOf, IsText, IsTypeOf, arguments_of, class_token}
 
 -- INTEGERS
 

@@ -1,15 +1,16 @@
 -- Lists of reached methods, and those of what stands for them.
-use Rattle.std.proofs.Common.{◌≡◌, ℕ, suc, ◌<◌, Bool, true, false, List, [], ◌∷◌, ◌++◌, length, map, Some, refl, sym, ap, ◌∙◌, eqb-true, eq-eqb, ⊎_elim, arith}
+use Rattle.std.proofs.Common.{◌≡◌, ℕ, ◌<◌, Bool, true, false, List, [], ◌∷◌, ◌++◌, map, Some, refl, sym, ap, ◌∙◌, eqb-true, eq-eqb, ⊎_elim}
 use Rattle.std.specs.Prelude.{◌≢◌, ◌==◌, ◌||◌, if◌then◌else◌, slice_get}
 use Rattle.std.specs.List.{AllByRecursion, AllPairs, AllZip, zip}
 use Rattle.std.proofs.lemmas.List.{map-append}
-use Rattle.std.proofs.lemmas.Bool.{cases_order, eqb-false, ne_eqb, or_cases, or_left, or_right}
+use Rattle.std.proofs.lemmas.Bool.{cases_order, eqb-false, ne_eqb}
 use Rattle.std.proofs.lemmas.Option.{get_or_from_slice_get, slice_get_within}
-use Rattle.px_link.proofs.Places.{at_place_of, in_at}
+use Rattle.px_methods.proofs.RowPlaces.{at_place_of, in_at}
+use Rattle.px_meta.specs.Rows.{is_in}
 use Rattle.px_methods.specs.Codes.{place_of}
 use Rattle.px_program.proofs.Types.{each-append}
 use Rattle.px_reach.specs.Finding.{AreIn}
-use Rattle.px_reach.specs.Met.{add_new, each_once, is_in}
+use Rattle.px_reach.specs.Met.{add_new, each_once}
 use Rattle.px_relink.specs.Again.{Again, method_for, methods_for}
 use Rattle.px_relink.proofs.Standing.{IsReachedRow, methods_apart}
 
@@ -23,15 +24,6 @@ pub in_for : (a : Again) (xs : List ℕ) (row : ℕ) → AreIn a.reads.reached.r
 in_for a [] row all reached = refl
 in_for a (x ∷ xs) row all reached =
     ap (λ b. b || is_in (methods_for a xs) (method_for a row)) (test_by a x row (x == row) refl all.0 reached) ∙ ap (λ b. (x == row) || b) (in_for a xs row all.1 reached)
-
--- what stands for a row that is there is there
-pub mapped_in : (f : ℕ → ℕ) (xs : List ℕ) (row : ℕ) → is_in xs row ≡ true → is_in (map f xs) (f row) ≡ true
-mapped_in f [] row is = absurd (cc)
-mapped_in f (x ∷ xs) row is =
-    ⊎_elim
-    (λ same. or_left (f x == f row) (is_in (map f xs) (f row)) (eq-eqb (f x) (f row) (ap f (eqb-true x row same))))
-    (λ later. or_right (f x == f row) (is_in (map f xs) (f row)) (mapped_in f xs row later))
-    (or_cases (x == row) (is_in xs row) is)
 
 pub added_for : (a : Again) (met xs : List ℕ) → AreIn a.reads.reached.rows met → AreIn a.reads.reached.rows xs → add_new (methods_for a met) (methods_for a xs) ≡ methods_for a (add_new met xs)
 added_for a met [] all more = refl
@@ -58,12 +50,6 @@ zip-maps f g (x ∷ xs) = ap (λ l. (f x, g x) ∷ l) (zip-maps f g xs)
 pub zip_each : {X Y Z : Type 0} (R : Y → Z → Type 0) (f : X → Y) (g : X → Z) (xs : List X) → AllByRecursion (λ x. R (f x) (g x)) xs → AllZip R (map f xs) (map g xs)
 zip_each R f g [] each = tt
 zip_each R f g (x ∷ xs) each = (each.0, zip_each R f g xs each.1)
-
-pub zip_by : {X Y : Type 0} (R : X → Y → Type 0) (xs : List X) (ys : List Y) → length ys ≡ length xs → ((n : ℕ) (x : X) (y : Y) → slice_get xs n ≡ Some x → slice_get ys n ≡ Some y → R x y) → AllZip R xs ys
-zip_by R [] [] size at = tt
-zip_by R [] (y ∷ ys) size at = absurd (omega arith)
-zip_by R (x ∷ xs) [] size at = absurd (omega arith)
-zip_by R (x ∷ xs) (y ∷ ys) size at = (at 0 x y refl refl, zip_by R xs ys (omega arith) (λ n a b p q. at (suc n) a b p q))
 
 pub zip_map : {X Y Z : Type 0} (R : Y → Z → Type 0) (f : X → Y) (xs : List X) (zs : List Z) → AllZip (λ x z. R (f x) z) xs zs → AllZip R (map f xs) zs
 zip_map R f [] [] are = tt

@@ -5,7 +5,7 @@ use Rattle.std.specs.List.{zip}
 use Rattle.std.specs.Option.{is_some, unwrap_or}
 use Rattle.std.proofs.lemmas.Option.{slice_get-get_or}
 use Rattle.px_meta.specs.Members.{owner_of}
-use Rattle.px_meta.specs.Rows.{IsRow, methods}
+use Rattle.px_meta.specs.Rows.{IsRow, is_in, methods}
 use Rattle.px_methods.specs.Codes.{place_of}
 use Rattle.px_methods.specs.Methods.{IsMethod}
 use Rattle.px_program.specs.declared.program.Method.{Method}
@@ -13,14 +13,13 @@ use Rattle.px_program.specs.declared.program.Slot.{Slot}
 use Rattle.px_program.proofs.Types.{each_at}
 use Rattle.px_link.specs.Layout.{IsSlot}
 use Rattle.px_link.proofs.LinkedProgram.{owner_numbered}
-use Rattle.px_link.proofs.Places.{at_place_of, at_zip, beside, in_at, one_of_each, place_below}
+use Rattle.px_methods.proofs.RowPlaces.{at_place_of, at_zip, beside, in_at, one_of_each, place_at_once, place_below, places_apart, places_rise}
 use Rattle.px_link.proofs.Reached.{distinct}
-use Rattle.px_reach.specs.Met.{IsBody, IsOwned, is_in}
+use Rattle.px_reach.specs.Met.{IsBody, IsOwned}
 use Rattle.px_reach.specs.declared.body.Whole.{Whole}
 use Rattle.px_relink.specs.Again.{Again, first_numbers, method_for, type_for}
-use Rattle.px_relink.specs.Describes.{IsMethodRow, IsSlotRow, type_row}
+use Rattle.px_described.specs.Describes.{IsMethodRow, IsSlotRow, type_row}
 use Rattle.px_relink.proofs.StandingOwned.{rows_owned}
-use Rattle.px_relink.proofs.StandingPlaces.{place_at_once, places_apart, places_rise}
 use Rattle.px_relink.proofs.TypesAgain.{IsMet}
 
 -- the method of a row was reached

@@ -21,7 +21,7 @@ use Rattle.px_reach.specs.Met.{IsOwned, calls_at, calls_of, in_body, method_in, 
 use Rattle.px_reach.specs.Overriders.{AreLists, AreOverriders, overriders_in}
 use Rattle.px_reach.specs.declared.body.Whole.{Whole}
 use Rattle.px_tables.specs.Metadata.{View}
-use Rattle.px_relink.proofs.StandingPlaces.{each_of_all}
+use Rattle.px_methods.proofs.RowPlaces.{each_of_all}
 
 each_joined : {X Y : Type 0} (P : Y → Type 0) (f : X → List Y) (xs : List X) → AllByRecursion (λ x. AllByRecursion P (f x)) xs → AllByRecursion P (flat_map f xs)
 each_joined P f [] each = tt

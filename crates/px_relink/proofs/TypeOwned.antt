@@ -6,8 +6,9 @@ use Rattle.std.proofs.lemmas.Bool.{cond_both}
 use Rattle.px_code.specs.Reading.{Fault}
 use Rattle.px_code.specs.declared.body.RawInstr.{RawInstr}
 use Rattle.px_link.proofs.Entries.{starts_owned}
-use Rattle.px_link.proofs.Places.{at_index, each_in, one_of_each}
+use Rattle.px_methods.proofs.RowPlaces.{at_index, each_in, one_of_each}
 use Rattle.px_link.specs.Link.{Reads, maker_of, starts_of}
+use Rattle.px_meta.specs.Rows.{is_in}
 use Rattle.px_operands.specs.declared.operand.Operand.{Operand}
 use Rattle.px_operands.specs.declared.operand.Operand.TheVariants as operand
 use Rattle.px_pe.specs.Image as pe
@@ -17,7 +18,7 @@ use Rattle.px_reach.proofs.Owned.{overriders_owned, owned_operand}
 use Rattle.px_reach.proofs.Reaching.{led_by}
 use Rattle.px_reach.proofs.Sets.{in_either, in_once}
 use Rattle.px_reach.specs.Bodies.{whole_at}
-use Rattle.px_reach.specs.Met.{IsOwned, calls_at, calls_of, in_body, is_in, method_in, operand_at, target_of, with_overriders}
+use Rattle.px_reach.specs.Met.{IsOwned, calls_at, calls_of, in_body, method_in, operand_at, target_of, with_overriders}
 use Rattle.px_reach.specs.Overriders.{AreLists, overriders_in}
 use Rattle.px_reach.specs.declared.body.Whole.{Whole}
 use Rattle.px_tables.specs.Metadata.{View}

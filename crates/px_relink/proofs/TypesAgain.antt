@@ -7,12 +7,12 @@ use Rattle.std.proofs.lemmas.Bool.{and_left, and_right, cond-false, cond-true, n
 use Rattle.std.proofs.lemmas.Option.{same_Some, slice_get_within}
 use Rattle.px_link.proofs.LinkedBases.{all_apart, number_at}
 use Rattle.px_link.proofs.LinkedTypes.{HasDefined, HaveTypes, StandsFor, defined_type, have_types}
-use Rattle.px_link.proofs.Places.{at_place_of, each_in, place_below}
+use Rattle.px_methods.proofs.RowPlaces.{at_place_of, each_in, place_below}
 use Rattle.px_link.specs.Layout.{row_of_key}
 use Rattle.px_meta.specs.Chains.{IsChain, base_in, Ends as ChainEnds, GoesOn}
 use Rattle.px_meta.specs.FullNames.{own_name}
 use Rattle.px_meta.specs.Overriding.{Derives, Directly, Through}
-use Rattle.px_meta.specs.Rows.{IsRow, type_defs, type_refs}
+use Rattle.px_meta.specs.Rows.{IsRow, is_in, type_defs, type_refs}
 use Rattle.px_methods.specs.Codes.{place_of}
 use Rattle.px_methods.specs.Methods.{met_by_all}
 use Rattle.px_operands.specs.Operands.{known_key}
@@ -23,7 +23,7 @@ use Rattle.px_program.specs.Library.{library_types}
 use Rattle.px_program.specs.declared.program.Place.{Place}
 use Rattle.px_program.specs.declared.program.Place.TheVariants as places
 use Rattle.px_program.specs.declared.program.TypeInfo.{TypeInfo}
-use Rattle.px_reach.specs.Met.{IsOwned, is_in}
+use Rattle.px_reach.specs.Met.{IsOwned}
 use Rattle.px_sig.specs.declared.sig.SigType.{SigType, Int, Class, Array}
 use Rattle.px_types.proofs.Closed.{each_numbered, grows, each-back, each-front}
 use Rattle.px_types.proofs.Formed.{has_by}
@@ -44,7 +44,7 @@ use Rattle.px_relink.proofs.TypeMet.{IsFit, fit_keys, library_fit_all, met_fit, 
 use Rattle.px_relink.proofs.TypeOwned.{reached_owned}
 use Rattle.px_relink.proofs.TypeReads.{IsRead, array_read, class_read, defined_class, int_read, integer_key, less_test, library_class, more_test, no_integer_place, object_read, text_read}
 use Rattle.px_relink.specs.Again.{Again, first_numbers, key_for, keys_for, leaf_for, type_for}
-use Rattle.px_relink.specs.Describes.{IsTypeOf, IsTypeRow, IsArray, IsNumber, IsObject, IsOther, IsText, class_token, type_row, IsFieldRow, base_of as base_index_of}
+use Rattle.px_described.specs.Describes.{IsTypeOf, IsTypeRow, IsArray, IsNumber, IsObject, IsOther, IsText, class_token, type_row, IsFieldRow, base_of as base_index_of}
 
 -- the type of a row was met: it has a number
 abbrev pub IsMet : Again → ℕ → Type 0

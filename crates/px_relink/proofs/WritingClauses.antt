@@ -8,15 +8,15 @@ use Rattle.px_code.specs.Reading.{Fault}
 use Rattle.px_code.specs.declared.body.RawClause.{RawClause}
 use Rattle.px_code.specs.declared.body.RawInstr.{RawInstr}
 use Rattle.px_link.proofs.LinkedOperands.{IsClass, class_class}
-use Rattle.px_link.proofs.Places.{at_zip, each_of_flat_map}
-use Rattle.px_meta.specs.Rows.{cell, methods}
+use Rattle.px_methods.proofs.RowPlaces.{at_zip, each_of_flat_map}
+use Rattle.px_meta.specs.Rows.{cell, is_in, methods}
 use Rattle.px_methods.specs.Methods.{caught, class_number, keys_of_body, keys_of_clause, keys_of_instr, keys_of_sig, linked_clause, met_by, sig_at}
 use Rattle.px_pe.specs.Image as pe
 use Rattle.px_program.proofs.Types.{each_at}
 use Rattle.px_program.specs.declared.program.Method.{Method}
 use Rattle.px_program.specs.declared.program.Program.{Program}
 use Rattle.px_reach.specs.Bodies.{no_body, whole_at}
-use Rattle.px_reach.specs.Met.{IsBody, is_in}
+use Rattle.px_reach.specs.Met.{IsBody}
 use Rattle.px_reach.specs.declared.body.Whole.{Whole}
 use Rattle.px_tables.specs.Metadata.{View}
 use Rattle.px_types.proofs.Closed.{each-back, grows}
@@ -30,7 +30,7 @@ use Rattle.px_types.specs.declared.key.Leaf.TheVariants.{Number, Library, Define
 use Rattle.px_relink.proofs.WritingMethods.{each_at_place, has_row}
 use Rattle.px_relink.proofs.WritingTypes.{library_few, library_number, type_placed}
 use Rattle.px_relink.specs.Linked.{IsLinked}
-use Rattle.px_relink.specs.Writable.{IsWritableClause}
+use Rattle.px_described.specs.Writable.{IsWritableClause}
 
 -- RANGES
 

@@ -12,7 +12,7 @@ use Rattle.std.proofs.lemmas.Map.Steps.{length-le_from_distinct_below}
 use Rattle.std.proofs.lemmas.Option.{same_Some, slice_get_within}
 use Rattle.std.proofs.lemmas.Slice.Zip.{AllZip-long}
 use Rattle.px_link.proofs.LinkedProgram.{numbering_of, same_count}
-use Rattle.px_link.proofs.Places.{at_zip, beside, one_of_each, place_below}
+use Rattle.px_methods.proofs.RowPlaces.{at_zip, beside, one_of_each, place_below}
 use Rattle.px_link.proofs.Slots.{inside}
 use Rattle.px_link.specs.Layout.{AreInRowOrder, Behind, IsSlot, Nearest, Nothing, OverridesAmong, number_among}
 use Rattle.px_methods.specs.Methods.{IsMethod}

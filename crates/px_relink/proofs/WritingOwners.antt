@@ -7,31 +7,30 @@ use Rattle.std.proofs.lemmas.Bool.{and_parts, cases_lt, cond-false, leb-true, lt
 use Rattle.std.proofs.lemmas.Option.{same_Some, slice_get-get_or, slice_get_within}
 use Rattle.px_link.proofs.LinkedProgram.{owner_numbered}
 use Rattle.px_link.proofs.LinkedTypes.{defined_type}
-use Rattle.px_link.proofs.Places.{found_passes, in_at}
+use Rattle.px_methods.proofs.RowPlaces.{found_passes, in_at, places_rise}
 use Rattle.px_link.specs.Layout.{row_of_key, type_row}
 use Rattle.px_meta.proofs.Alike.{owner_row}
 use Rattle.px_meta.specs.Faults.{IsFaultless, Lists}
 use Rattle.px_meta.specs.Members.{is_listed, list_end, list_start, owner_of}
-use Rattle.px_meta.specs.Rows.{IsRow, cell, count_of, methods, rows_in, text_at, type_defs}
+use Rattle.px_meta.specs.Rows.{IsRow, cell, count_of, is_in, methods, rows_in, text_at, type_defs}
 use Rattle.px_meta.specs.declared.fault.MetaKind.TheVariants.{BadList}
 use Rattle.px_methods.specs.Codes.{place_of}
 use Rattle.px_program.proofs.Types.{each_at}
 use Rattle.px_program.specs.declared.program.Method.{Method}
 use Rattle.px_program.specs.declared.program.Program.{Program}
-use Rattle.px_reach.specs.Met.{IsOwned, is_in}
+use Rattle.px_reach.specs.Met.{IsOwned}
 use Rattle.px_tables.specs.Metadata.{View}
 use Rattle.px_types.proofs.Formed.{at_place}
 use Rattle.px_types.proofs.Keyed.{at_number}
 use Rattle.px_types.specs.Keys.{alone}
 use Rattle.px_types.specs.Numbers.{number_of}
 use Rattle.px_types.specs.declared.key.Leaf.TheVariants.{Defined}
-use Rattle.px_relink.proofs.StandingPlaces.{places_rise}
 use Rattle.px_relink.proofs.TypeOwned.{reached_owned}
 use Rattle.px_relink.proofs.WritingMethods.{count_is, each_at_place, has_row, some_value}
 use Rattle.px_relink.proofs.WritingTexts.{method_text, one_name}
 use Rattle.px_relink.proofs.WritingTypes.{HasNumber, have_all, type_placed}
 use Rattle.px_relink.specs.Linked.{IsLinked}
-use Rattle.px_relink.specs.Writable.{HasOwner, owner_in, owner_place}
+use Rattle.px_described.specs.Writable.{HasOwner, owner_in, owner_place}
 
 -- OWNERS
 

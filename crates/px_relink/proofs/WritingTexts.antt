@@ -14,7 +14,7 @@ use Rattle.px_meta.specs.Rows.{IsReadable, IsRow, cell, methods, nested_classes,
 use Rattle.px_meta.specs.declared.fault.MetaKind.TheVariants.{BadToken}
 use Rattle.px_tables.specs.Metadata.{View}
 use Rattle.px_types.proofs.There.{row_there}
-use Rattle.px_relink.specs.Writable.{IsText}
+use Rattle.px_described.specs.Writable.{IsText}
 
 -- TEXTS
 

@@ -8,16 +8,16 @@ use Rattle.std.proofs.lemmas.Option.{slice_get_within}
 use Rattle.px_link.proofs.LinkedBases.{all_apart, number_at}
 use Rattle.px_link.proofs.LinkedProgram.{numbering_of}
 use Rattle.px_link.proofs.LinkedTypes.{HaveTypes, StandsFor, defined_type, have_types}
-use Rattle.px_link.proofs.Places.{each_in, one_of_each}
+use Rattle.px_methods.proofs.RowPlaces.{each_in, one_of_each}
 use Rattle.px_link.specs.Layout.{row_of, row_of_key, type_row}
-use Rattle.px_meta.specs.Rows.{IsRow, type_defs}
+use Rattle.px_meta.specs.Rows.{IsRow, is_in, type_defs}
 use Rattle.px_methods.specs.Methods.{met_by_all}
 use Rattle.px_program.proofs.Types.{each_at}
 use Rattle.px_program.specs.Library.{library_types}
 use Rattle.px_program.specs.declared.program.Place.{Place}
 use Rattle.px_program.specs.declared.program.Program.{Program}
 use Rattle.px_program.specs.declared.program.TypeInfo.{TypeInfo}
-use Rattle.px_reach.specs.Met.{IsOwned, is_in}
+use Rattle.px_reach.specs.Met.{IsOwned}
 use Rattle.px_tables.specs.Metadata.{View}
 use Rattle.px_types.proofs.Closed.{each-front, each_numbered, grows}
 use Rattle.px_types.proofs.Formed.{at_place, has_by}
@@ -36,7 +36,7 @@ use Rattle.px_relink.proofs.TypeMet.{IsFit, fit_keys, library_fit_all, met_fit, 
 use Rattle.px_relink.proofs.TypeOwned.{reached_owned}
 use Rattle.px_relink.proofs.WritingTexts.{type_text}
 use Rattle.px_relink.specs.Linked.{IsLinked}
-use Rattle.px_relink.specs.Writable.{IsAssemblyType}
+use Rattle.px_described.specs.Writable.{IsAssemblyType}
 
 -- KEYS
 

@@ -11,9 +11,9 @@ use Rattle.px_types.specs.Numbers.{number_of}
 use Rattle.px_types.specs.declared.key.Key.{Key}
 use Rattle.px_types.specs.declared.key.Leaf.{Leaf}
 use Rattle.px_types.specs.declared.key.Leaf.TheVariants.{Number, Library, Defined}
-use Rattle.px_relink.specs.Describes.{Describes, method_row, type_row}
+use Rattle.px_described.specs.Describes.{Describes, method_row, type_row}
 use Rattle.px_relink.specs.Linked.{RunsWhole}
-use Rattle.px_relink.specs.Writable.{IsWritable}
+use Rattle.px_described.specs.Writable.{IsWritable}
 
 -- a program that was linked from one assembly (`first`, `from`) and is described by another (`v`, `image`)
 pub record Again : Type 0 where

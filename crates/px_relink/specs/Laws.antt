@@ -3,9 +3,9 @@ use Rattle.px_link.specs.Link.{Reads}
 use Rattle.px_pe.specs.Image as pe
 use Rattle.px_program.specs.declared.program.Program.{Program}
 use Rattle.px_tables.specs.Metadata.{View}
-use Rattle.px_relink.specs.Describes.{Describes}
+use Rattle.px_described.specs.Describes.{Describes}
 use Rattle.px_relink.specs.Linked.{IsLinked, RunsWhole, entry_name}
-use Rattle.px_relink.specs.Writable.{IsWritable}
+use Rattle.px_described.specs.Writable.{IsWritable}
 
 -- an assembly that describes a program is linked to it
 abbrev pub DescribedIsLinked : Type 0

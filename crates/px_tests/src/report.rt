@@ -38,11 +38,11 @@ fn put_end_part<O: Sink>(out: &mut O, program: &Program, end: End) -> Result<(),
 }
 
 #[tactic(auto, using(px_io::proofs::Putting::writing))]
-fn put_path_and_end<O: Sink>(out: &mut O, program: &Program, record: &Record) -> Result<(), Stopped>
-    ensures { Puts O.written O.faults out.old (path_part record.now.events ++ end_part program.now record.now.end) out.new result }
+fn put_path_and_end<O: Sink>(out: &mut O, program: &Program, run: &Record) -> Result<(), Stopped>
+    ensures { Puts O.written O.faults out.old (path_part run.now.events ++ end_part program.now run.now.end) out.new result }
 {
-    put_path_part(out, record.events.as_slice())?;
-    put_end_part(out, program, record.end)
+    put_path_part(out, run.events.as_slice())?;
+    put_end_part(out, program, run.end)
 }
 
 #[tactic(auto, using(px_io::proofs::Putting::writing))]
@@ -50,13 +50,13 @@ fn put_run<O: Sink>(
     out: &mut O,
     program: &Program,
     parts: &[Part],
-    record: &Record,
+    run: &Record,
 ) -> Result<(), Stopped>
-    requires { InDomain parts.now record.now.words }
-    ensures { Puts O.written O.faults out.old (args_text parts.now record.now.words ++ (path_part record.now.events ++ end_part program.now record.now.end)) out.new result }
+    requires { InDomain parts.now run.now.words }
+    ensures { Puts O.written O.faults out.old (args_text parts.now run.now.words ++ (path_part run.now.events ++ end_part program.now run.now.end)) out.new result }
 {
-    put_args(out, parts, record.words.as_slice())?;
-    put_path_and_end(out, program, record)
+    put_args(out, parts, run.words.as_slice())?;
+    put_path_and_end(out, program, run)
 }
 
 #[tactic(auto, using(px_io::proofs::Putting::writing))]
@@ -65,13 +65,13 @@ fn put_test<O: Sink>(
     program: &Program,
     parts: &[Part],
     number: u64,
-    record: &Record,
+    run: &Record,
 ) -> Result<(), Stopped>
-    requires { InDomain parts.now record.now.words }
-    ensures { Puts O.written O.faults out.old (test_text program.now parts.now number record.now) out.new result }
+    requires { InDomain parts.now run.now.words }
+    ensures { Puts O.written O.faults out.old (test_text program.now parts.now number run.now) out.new result }
 {
     put_test_head(out, number)?;
-    put_run(out, program, parts, record)
+    put_run(out, program, parts, run)
 }
 
 fn put_tests<O: Sink>(

@@ -6,8 +6,8 @@ ghost use Rattle.px_types.specs.Parts.{leaf_of};
 
 use crate::key::{Key, Leaf};
 use crate::library::{is_value_base, library_ref};
-use crate::table::{TYPE_DEFS, TYPE_REFS, base_index, cell_of, some_row};
-use px_meta::Meta;
+use crate::table::base_index;
+use px_meta::{Meta, TYPE_DEFS, TYPE_REFS, cell_of, some_row};
 use px_sig::SigType;
 use px_tables::Tables;
 

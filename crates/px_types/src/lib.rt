@@ -19,5 +19,5 @@ pub use library::{is_system, library_ref, ref_name};
 pub use naming::full_name;
 pub use numbers::is_integer;
 pub use own::{instance_fields, static_fields};
-pub use table::{FIELDS, TYPE_DEFS, TYPE_REFS, cell_of, some_row, text_at};
+pub use table::text_at;
 pub use types::Types;

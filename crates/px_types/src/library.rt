@@ -4,7 +4,8 @@ ghost use Rattle.px_meta.specs.Rows.{IsRow, type_refs};
 ghost use Rattle.px_types.specs.Keys.{is_system, is_value_base, library_number, library_ref, ref_name};
 ghost use Rattle.px_types.specs.Names.{names};
 
-use crate::table::{TYPE_REFS, cell_of, text_at};
+use crate::table::text_at;
+use px_meta::{TYPE_REFS, cell_of};
 use px_tables::Tables;
 
 // The names of the library's types in the order of their numbers, without their namespace.

@@ -5,8 +5,8 @@ ghost use Rattle.px_meta.specs.Chains.{IsChain, outer_of};
 ghost use Rattle.px_meta.specs.FullNames.{IsTypeName, own_name, type_name};
 ghost use Rattle.px_meta.specs.Rows.{IsRow, type_defs};
 
-use crate::table::{TYPE_DEFS, cell_of, text_at};
-use px_meta::Meta;
+use crate::table::text_at;
+use px_meta::{Meta, TYPE_DEFS, cell_of};
 use px_program::Name;
 use px_tables::Tables;
 use sqlite_items::Items;

@@ -9,8 +9,8 @@ ghost use Rattle.px_types.specs.Numbers.{base_in_library, base_of, field_key, in
 use crate::classes::place_key;
 use crate::key::{Key, Leaf};
 use crate::library::library_ref;
-use crate::table::{FIELDS, TYPE_DEFS, base_index, list_end, list_start};
-use px_meta::{Meta, MetaField};
+use crate::table::{base_index, list_end, list_start};
+use px_meta::{FIELDS, Meta, MetaField, TYPE_DEFS};
 use px_tables::Tables;
 use std::alloc::{AllocError, Global};
 

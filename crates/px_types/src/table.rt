@@ -4,32 +4,8 @@ ghost use Rattle.px_meta.specs.Members.{list_end, list_start};
 ghost use Rattle.px_meta.specs.Rows.{IsRow, cell, fields, some_row, text_at, type_defs, type_refs};
 ghost use Rattle.px_types.specs.Keys.{base_index};
 
+use px_meta::{FIELDS, TYPE_DEFS, cell_of};
 use px_tables::{Heap, Tables};
-
-/// The number of the table TypeRef.
-pub const TYPE_REFS: u8 = 0x01;
-
-/// The number of the table TypeDef.
-pub const TYPE_DEFS: u8 = 0x02;
-
-/// The number of the table Field.
-pub const FIELDS: u8 = 0x04;
-
-/// The number in a column of a row.
-pub fn cell_of(tables: &Tables, table: u8, row: u32, column: usize) -> u32
-    requires row { IsRow tables.now table row }
-    requires column { column < 9 }
-    ensures { result ≡ cell tables.now table row column }
-{
-    tables.row(table, row).cells[column]
-}
-
-/// A number as a row of a table that has it.
-pub fn some_row(tables: &Tables, table: u8, row: u32) -> Option<u32>
-    ensures { result ≡ some_row tables.now table row }
-{
-    (1 <= row && row <= tables.rows(table)).then_some(row)
-}
 
 // The place of the first zero byte.
 fn first_zero(bytes: &[u8]) -> Option<usize>

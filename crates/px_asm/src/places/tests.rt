@@ -1,6 +1,6 @@
 // What no clause says: that calls succeed with ample memory, and which types and tokens are meant.
 ghost use Rattle.std.specs.Prelude.{◌≡◌, IfOk};
-ghost use Rattle.px_relink.specs.Writable.{IsWritable};
+ghost use Rattle.px_described.specs.Writable.{IsWritable};
 ghost use Rattle.px_asm.specs.Example.{all_types, bare_type, instance_method, layout, no_slot, static_method};
 
 use super::*;

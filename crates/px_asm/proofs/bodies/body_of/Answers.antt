@@ -1,7 +1,7 @@
 use Rattle.std.proofs.Common.{◌≡◌, subst, refl}
 use Rattle.std.specs.List.{AllZip}
-use Rattle.px_relink.specs.Describes.{raw_clause}
-use Rattle.px_asm.specs.Holds.{IsInstrIn}
+use Rattle.px_described.specs.Describes.{raw_clause}
+use Rattle.px_written.specs.Holds.{IsInstrIn}
 use Rattle.px_asm.proofs.BodyFormed.{all_encodable, is_body}
 use Rattle.px_asm.proofs.bodies.body_of.Goals as goal
 

@@ -1,6 +1,6 @@
 use Rattle.std.proofs.Common.{◌≡◌, take}
 use Rattle.std.specs.List.{AllZip}
-use Rattle.px_relink.specs.Describes.{raw_clause}
+use Rattle.px_described.specs.Describes.{raw_clause}
 use Rattle.px_asm.proofs.bodies.clauses_of.Given as goal
 
 abbrev pub invariant-loop-clause : goal.invariant-loop-clause

@@ -1,8 +1,8 @@
 use Rattle.std.proofs.Common.{◌≡◌, ◌++◌, ap, ◌∙◌, subst}
 use Rattle.std.specs.Prelude.{IfOk}
 use Rattle.px_code.specs.Body.{body_of}
-use Rattle.px_relink.specs.Describes.{method_row}
-use Rattle.px_asm.specs.Holds.{IsAddress, IsBodyIn}
+use Rattle.px_described.specs.Describes.{method_row}
+use Rattle.px_written.specs.Holds.{IsAddress, IsBodyIn}
 use Rattle.px_asm.proofs.BodyStands.{added_at, read_there}
 use Rattle.px_asm.proofs.bodies.push_body.Goals as goal
 

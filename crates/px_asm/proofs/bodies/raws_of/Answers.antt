@@ -1,7 +1,7 @@
 use Rattle.std.proofs.Common.{◌<◌, ◌^◌, rules}
 use Rattle.px_methods.proofs.Pieces.{zipped_more}
 use Rattle.px_asm.proofs.StoreStays.{store_grows_on}
-use Rattle.px_asm.specs.Holds.{IsInstrIn}
+use Rattle.px_written.specs.Holds.{IsInstrIn}
 use Rattle.px_asm.proofs.BodyStays.{instrs_stay}
 use Rattle.px_asm.proofs.bodies.raws_of.Goals as goal
 

@@ -1,7 +1,7 @@
 use Rattle.std.proofs.Common.{take}
 use Rattle.std.specs.List.{AllZip}
-use Rattle.px_asm.specs.Holds.{IsInstrIn}
-use Rattle.px_asm.specs.Store.{AreReferences, StoreGrows}
+use Rattle.px_written.specs.Holds.{IsInstrIn}
+use Rattle.px_written.specs.Store.{AreReferences, StoreGrows}
 use Rattle.px_asm.proofs.bodies.raws_of.Given as goal
 
 abbrev pub invariant-loop-instr : goal.invariant-loop-instr

@@ -3,7 +3,7 @@ use Rattle.std.specs.Prelude.{slice_get}
 use Rattle.std.specs.List.{AllByRecursion, flat_map}
 use Rattle.px_program.specs.Formed.{FitsPlace}
 use Rattle.px_program.specs.declared.program.Place.{Place}
-use Rattle.px_asm.specs.Tokens.{fields_in, fields_of}
+use Rattle.px_written.specs.Tokens.{fields_in, fields_of}
 use Rattle.px_asm.proofs.TableFacts.{table_fields_fit}
 use Rattle.px_asm.proofs.fields.field_defs.Goals as goal
 

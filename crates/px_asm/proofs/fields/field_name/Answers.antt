@@ -1,6 +1,6 @@
 use Rattle.std.proofs.Common.{refl, sym, ◌∙◌, subst, arith}
 use Rattle.std.specs.Str.{IsAscii}
-use Rattle.px_relink.specs.Writable.{IsText}
+use Rattle.px_described.specs.Writable.{IsText}
 use Rattle.px_asm.proofs.TableTexts.{table_digits, table_plain_text, table_text_append}
 use Rattle.px_asm.proofs.fields.field_name.Goals as goal
 

@@ -1,5 +1,5 @@
 use Rattle.px_asm.proofs.StoreStays.{store_grows_on}
-use Rattle.px_asm.specs.Holds.{IsFieldDef}
+use Rattle.px_written.specs.Holds.{IsFieldDef}
 use Rattle.px_asm.proofs.TableFacts.{zipped_at}
 use Rattle.px_asm.proofs.TableStays.{heaps, table_stays_field}
 use Rattle.px_asm.proofs.fields.field_rows.Goals as goal

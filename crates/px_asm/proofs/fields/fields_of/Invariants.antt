@@ -1,6 +1,6 @@
 use Rattle.std.proofs.Common.{◌≡◌, take}
 use Rattle.std.specs.List.{flat_map}
-use Rattle.px_asm.specs.Tokens.{fields_in}
+use Rattle.px_written.specs.Tokens.{fields_in}
 use Rattle.std.specs.Prelude.{slice_get}
 use Rattle.px_asm.proofs.fields.fields_of.Given as goal
 

@@ -1,5 +1,5 @@
 use Rattle.px_asm.proofs.StoreStays.{store_grows_on}
-use Rattle.px_asm.specs.Holds.{IsLocals}
+use Rattle.px_written.specs.Holds.{IsLocals}
 use Rattle.px_asm.proofs.TableFacts.{zipped_at}
 use Rattle.px_asm.proofs.TableStays.{heaps, table_stays_locals}
 use Rattle.px_asm.proofs.methods.locals_rows.Goals as goal

@@ -1,7 +1,7 @@
 use Rattle.std.proofs.Common.{ℕ, List, take}
 use Rattle.std.specs.List.{AllZip}
-use Rattle.px_asm.specs.Holds.{IsMethodDef}
-use Rattle.px_asm.specs.Store.{Store, StoreGrows}
+use Rattle.px_written.specs.Holds.{IsMethodDef}
+use Rattle.px_written.specs.Store.{Store, StoreGrows}
 use Rattle.px_asm.specs.Tables.{HasAddress, HeapsGrow}
 use Rattle.px_asm.proofs.methods.method_rows.Given as goal
 

@@ -1,7 +1,7 @@
 use Rattle.std.proofs.Common.{◌≢◌, refl, ap, ◌∙◌, arith}
 use Rattle.px_encode.specs.Spelling.{is_class_token}
 use Rattle.px_program.specs.declared.program.Place.TheVariants as places
-use Rattle.px_relink.specs.Describes.{IsTypeOf}
+use Rattle.px_described.specs.Describes.{IsTypeOf}
 use Rattle.px_sig.specs.declared.sig.SigType.{Class}
 use Rattle.px_asm.proofs.PlaceTypes.{class_spelled, is_class, spelled_class, typed}
 use Rattle.px_asm.proofs.places.class_type.Goals as goal

@@ -1,6 +1,6 @@
 use Rattle.std.proofs.Common.{◌+◌, ◌≤◌, length}
 use Rattle.px_program.specs.Formed.{FitsPlace}
-use Rattle.px_relink.specs.Describes.{IsTypeOf}
+use Rattle.px_described.specs.Describes.{IsTypeOf}
 use Rattle.px_sig.specs.Parts.{arrays_of}
 use Rattle.px_sig.specs.declared.sig.SigType.{SigType}
 use Rattle.px_asm.proofs.PlaceEnds.{arrays_left}

@@ -7,7 +7,7 @@ use Rattle.std.proofs.lemmas.Option.{get_or_from_slice_get, slice_get-get_or}
 use Rattle.px_encode.specs.Spelling.{is_spelled}
 use Rattle.px_methods.proofs.Pieces.{zipped_more}
 use Rattle.px_program.specs.declared.program.Place.TheVariants as places
-use Rattle.px_relink.specs.Describes.{IsTypeOf}
+use Rattle.px_described.specs.Describes.{IsTypeOf}
 use Rattle.px_asm.proofs.places.types_of.Goals as goal
 
 pub loop-place-preserved : goal.loop-place-preserved

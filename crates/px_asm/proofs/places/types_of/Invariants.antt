@@ -1,7 +1,7 @@
 use Rattle.std.proofs.Common.{◌≡◌, true, take}
 use Rattle.std.specs.List.{AllZip, list_all}
 use Rattle.px_encode.specs.Spelling.{is_spelled}
-use Rattle.px_relink.specs.Describes.{IsTypeOf}
+use Rattle.px_described.specs.Describes.{IsTypeOf}
 use Rattle.px_asm.proofs.places.types_of.Given as goal
 
 abbrev pub invariant-loop-place : goal.invariant-loop-place

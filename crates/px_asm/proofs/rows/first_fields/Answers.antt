@@ -4,7 +4,7 @@ use Rattle.std.proofs.lemmas.List.{length-set}
 use Rattle.std.proofs.lemmas.Option.{slice_get-get_or, slice_get_read}
 use Rattle.px_program.proofs.Types.{each_at}
 use Rattle.px_program.specs.declared.program.TypeInfo.{TypeInfo}
-use Rattle.px_asm.specs.Tokens.{fields_in, first_field}
+use Rattle.px_written.specs.Tokens.{fields_in, first_field}
 use Rattle.px_asm.proofs.RowCounts.{next_field, types_below}
 use Rattle.px_asm.proofs.RowSetting.{AreSet, all_set, one_set}
 use Rattle.px_asm.proofs.rows.first_fields.Goals as goal

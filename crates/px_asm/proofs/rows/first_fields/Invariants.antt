@@ -1,5 +1,5 @@
 use Rattle.std.proofs.Common.{◌≡◌, ◌≤◌, ◌^◌, length}
-use Rattle.px_asm.specs.Tokens.{first_field}
+use Rattle.px_written.specs.Tokens.{first_field}
 use Rattle.px_asm.proofs.RowSetting.{AreSet}
 use Rattle.px_asm.proofs.rows.first_fields.Given as goal
 

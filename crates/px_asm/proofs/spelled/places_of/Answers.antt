@@ -2,7 +2,7 @@ use Rattle.std.proofs.Common.{[], ◌++◌, ◌∷◌, map, sym, ap, ◌∙◌, 
 use Rattle.std.specs.List.{range_with_len}
 use Rattle.std.proofs.lemmas.List.FromFn.{map-range_with_len_more}
 use Rattle.px_program.specs.declared.program.Place.TheVariants as places
-use Rattle.px_asm.specs.Holds.{integer_places}
+use Rattle.px_written.specs.Holds.{integer_places}
 use Rattle.px_asm.proofs.spelled.places_of.Goals as goal
 
 pub loop-number-preserved : goal.loop-number-preserved

@@ -1,5 +1,5 @@
 use Rattle.px_asm.proofs.StoreStays.{store_grows_on}
-use Rattle.px_asm.specs.Holds.{IsSpecRow}
+use Rattle.px_written.specs.Holds.{IsSpecRow}
 use Rattle.px_asm.proofs.TableFacts.{zipped_at}
 use Rattle.px_asm.proofs.TableStays.{heaps, table_stays_spec}
 use Rattle.px_asm.proofs.spelled.rows_of.Goals as goal

@@ -1,7 +1,7 @@
 use Rattle.std.proofs.Common.{take}
 use Rattle.std.specs.List.{AllZip}
-use Rattle.px_asm.specs.Holds.{IsSpecRow}
-use Rattle.px_asm.specs.Store.{StoreGrows}
+use Rattle.px_written.specs.Holds.{IsSpecRow}
+use Rattle.px_written.specs.Store.{StoreGrows}
 use Rattle.px_asm.proofs.spelled.rows_of.Given as goal
 
 abbrev pub invariant-loop-place : goal.invariant-loop-place

@@ -3,7 +3,7 @@ use Rattle.std.specs.Prelude.{IfOk}
 use Rattle.std.specs.List.{AllByRecursion, AllZip, range_with_len}
 use Rattle.px_program.specs.Formed.{FitsPlace}
 use Rattle.px_program.specs.declared.program.Place.TheVariants as places
-use Rattle.px_asm.specs.Holds.{IsSpecRow, integer_places}
+use Rattle.px_written.specs.Holds.{IsSpecRow, integer_places}
 use Rattle.px_asm.proofs.TableFacts.{table_places_fit}
 use Rattle.px_asm.proofs.spelled.spec_rows.Goals as goal
 

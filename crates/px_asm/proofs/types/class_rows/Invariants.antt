@@ -1,7 +1,7 @@
 use Rattle.std.proofs.Common.{take}
 use Rattle.std.specs.List.{AllZip}
 use Rattle.px_asm.specs.Tables.{IsTypeDefOf}
-use Rattle.px_asm.specs.Store.{StoreGrows}
+use Rattle.px_written.specs.Store.{StoreGrows}
 use Rattle.px_asm.proofs.types.class_rows.Given as goal
 
 abbrev pub invariant-loop-number : goal.invariant-loop-number

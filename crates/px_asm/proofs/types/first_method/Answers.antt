@@ -1,7 +1,7 @@
 use Rattle.std.proofs.Common.{arith, rules, ltb}
 use Rattle.std.proofs.lemmas.List.Sorted.{IsPartitionPoint-from_clause}
 use Rattle.px_methods.specs.Codes.{place_of}
-use Rattle.px_relink.specs.Writable.{owner_place}
+use Rattle.px_described.specs.Writable.{owner_place}
 use Rattle.px_asm.proofs.TableCounts.{table_cut_at, table_owners_rise}
 use Rattle.px_asm.proofs.types.first_method.Goals as goal
 

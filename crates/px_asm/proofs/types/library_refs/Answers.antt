@@ -1,9 +1,9 @@
 use Rattle.std.proofs.Common.{◌≡◌, ◌-◌, length, take, drop, refl, sym, ap, ◌∙◌, subst, arith, length-drop}
 use Rattle.std.specs.Prelude.{codes}
 use Rattle.std.proofs.lemmas.List.{take_all}
-use Rattle.px_relink.specs.Writable.{IsText}
+use Rattle.px_described.specs.Writable.{IsText}
 use Rattle.px_asm.proofs.StoreStays.{store_grows_on, string_stays}
-use Rattle.px_asm.specs.Holds.{IsTypeRef}
+use Rattle.px_written.specs.Holds.{IsTypeRef}
 use Rattle.px_asm.proofs.TableTexts.{table_plain_text}
 use Rattle.px_asm.proofs.TableTypes.{IsLibraryName, table_library_name, table_refs_more}
 use Rattle.px_asm.proofs.types.library_refs.Goals as goal

@@ -2,8 +2,8 @@ use Rattle.std.proofs.Common.{map, take}
 use Rattle.std.specs.List.{AllZip}
 use Rattle.px_encode.specs.Heaps.{HasString}
 use Rattle.std.specs.Prelude.{codes}
-use Rattle.px_asm.specs.Holds.{IsTypeRef, system}
-use Rattle.px_asm.specs.Store.{StoreGrows}
+use Rattle.px_written.specs.Holds.{IsTypeRef, system}
+use Rattle.px_written.specs.Store.{StoreGrows}
 use Rattle.px_asm.proofs.types.library_refs.Given as goal
 
 abbrev pub invariant-loop-info : goal.invariant-loop-info

@@ -1,6 +1,6 @@
 use Rattle.std.proofs.Common.{◌+◌, ◌<◌, length, get_or, ap, ◌∙◌}
 use Rattle.px_methods.proofs.Pieces.{each_item, mapped_more}
-use Rattle.px_relink.specs.Writable.{owner_place}
+use Rattle.px_described.specs.Writable.{owner_place}
 use Rattle.px_asm.proofs.TableFacts.{read_again}
 use Rattle.px_asm.proofs.TableTypes.{table_owner_row}
 use Rattle.px_asm.proofs.types.owner_rows.Goals as goal

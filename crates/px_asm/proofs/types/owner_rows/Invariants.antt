@@ -1,5 +1,5 @@
 use Rattle.std.proofs.Common.{◌≡◌, ◌+◌, map, take}
-use Rattle.px_relink.specs.Writable.{owner_place}
+use Rattle.px_described.specs.Writable.{owner_place}
 use Rattle.px_asm.proofs.types.owner_rows.Given as goal
 
 abbrev pub invariant-loop-number : goal.invariant-loop-number

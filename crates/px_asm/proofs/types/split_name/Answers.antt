@@ -1,6 +1,6 @@
 use Rattle.std.proofs.Common.{◌≡◌, ◌-◌, ◌+◌, length, take, drop, subst, sym, arith, length-drop}
 use Rattle.std.proofs.lemmas.List.{take_all}
-use Rattle.px_relink.specs.Writable.{IsText}
+use Rattle.px_described.specs.Writable.{IsText}
 use Rattle.px_asm.proofs.TableTexts.{table_text_before, table_text_behind}
 use Rattle.px_asm.proofs.types.split_name.Goals as goal
 

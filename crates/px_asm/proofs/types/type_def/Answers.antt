@@ -1,5 +1,5 @@
 use Rattle.std.proofs.Common.{sym, ap, ◌∙◌, subst, length, arith}
-use Rattle.px_relink.specs.Writable.{IsText}
+use Rattle.px_described.specs.Writable.{IsText}
 use Rattle.px_asm.proofs.TableFacts.{table_type_there}
 use Rattle.px_asm.proofs.TableTypes.{table_laid_info, table_type_def_made}
 use Rattle.px_asm.proofs.types.type_def.Goals as goal

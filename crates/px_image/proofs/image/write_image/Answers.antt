@@ -1,6 +1,6 @@
 use Rattle.std.proofs.Common.{◌≡◌, ℕ, List, ◌+◌, ◌++◌, length, ap, ◌∙◌, arith}
 use Rattle.std.specs.Vec.{vec_len}
-use Rattle.px_image.specs.Image.{padded}
+use Rattle.px_tables.specs.Streams.{padded}
 use Rattle.px_image.specs.Parts.{headers_of, section_size}
 use Rattle.px_image.proofs.ReadBack.{headers_written}
 use Rattle.px_image.proofs.Written.{appended, image_written}

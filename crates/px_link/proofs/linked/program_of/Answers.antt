@@ -1,9 +1,9 @@
 use Rattle.std.proofs.Common.{◌≡◌, true, length, sym, ap, ◌∙◌, subst}
 use Rattle.std.specs.Prelude.{◌==◌}
 use Rattle.std.specs.List.{AllByRecursion, IsDistinct, flat_map}
-use Rattle.px_meta.specs.Rows.{IsRow, methods}
+use Rattle.px_meta.specs.Rows.{IsRow, is_in, methods}
 use Rattle.px_methods.specs.Methods.{AreMethods}
-use Rattle.px_reach.specs.Met.{is_in, target_of}
+use Rattle.px_reach.specs.Met.{target_of}
 use Rattle.px_reach.specs.declared.body.Whole.{Whole}
 use Rattle.px_types.specs.Numbers.{library_keys}
 use Rattle.px_link.specs.Layout.{IsLayout}

@@ -4,9 +4,15 @@ use Rattle.px_tables.specs.Counts.{has_bit}
 use Rattle.px_meta.specs.Members.{IsMethod}
 use Rattle.px_meta.specs.Rows.{methods}
 use Rattle.px_meta.proofs.Alike.{item_of, owner_row}
-use Rattle.px_meta.proofs.Nearest.{nearest_owned}
+use Rattle.px_meta.proofs.Nearest.{nearest_owned, nearest_virtual}
 use Rattle.px_meta.proofs.Saying.{named_or_none}
 use Rattle.px_meta.proofs.overriding.by_name.Goals as goal
+
+pub returns-then-own-ne1 : goal.returns-then-own-ne1
+returns-then-own-ne1 c =
+    let own = item_of IsMethod c.args.tables.now methods c.args.method c.args.members.now c.index-members-method.result c.requires.members c.requires.method c.index-members-method.is in
+    let unset : has_bit c.index-members-method.result.flags 6 ≡ false = ne_eqb _ _ c.if-own-ne1.true in
+    λ other old n. false≢true (sym unset ∙ ap (λ f. has_bit f 6) own.flags ∙ nearest_virtual c.args.tables.now c.args.method _ other n)
 
 pub returns-then-own-eq1 : goal.returns-then-own-eq1
 returns-then-own-eq1 c =

@@ -6,13 +6,13 @@ pub loop-turn-init : goal.loop-turn-init
 loop-turn-init c = climb_begun c.args.tables.now c.args.from c.args.ancestor c.requires.row c.requires.end
 
 pub returns-in-None : goal.returns-in-None
-returns-in-None c = climb_ended c.args.tables.now c.args.from c.args.ancestor c.loop-turn.turn c.loop-turn.at c.loop-turn.invariant (sym c.base_in.ensures ∙ c.in-None.is)
+returns-in-None c = climb_ended c.args.tables.now c.args.from c.args.ancestor c.loop-turn.turn c.loop-turn.at c.loop-turn.invariant (sym c.base_in.ensures.base ∙ c.in-None.is)
 
 pub returns-in-Some : goal.returns-in-Some
-returns-in-Some c = climb_found c.args.tables.now c.args.from c.args.ancestor c.loop-turn.turn c.loop-turn.at c.in-Some.base c.loop-turn.invariant (sym c.base_in.ensures ∙ c.in-Some.is) c.if-base-ancestor.true
+returns-in-Some c = climb_found c.args.tables.now c.args.from c.args.ancestor c.loop-turn.turn c.loop-turn.at c.in-Some.base c.loop-turn.invariant (sym c.base_in.ensures.base ∙ c.in-Some.is) c.if-base-ancestor.true
 
 pub loop-turn-preserved : goal.loop-turn-preserved
-loop-turn-preserved c = climb_more c.args.tables.now c.args.from c.args.ancestor c.loop-turn.turn c.loop-turn.at c.in-Some.base c.loop-turn.invariant (sym c.base_in.ensures ∙ c.in-Some.is) c.if-base-ancestor.false
+loop-turn-preserved c = climb_more c.args.tables.now c.args.from c.args.ancestor c.loop-turn.turn c.loop-turn.at c.in-Some.base c.loop-turn.invariant (sym c.base_in.ensures.base ∙ c.in-Some.is) c.if-base-ancestor.false
 
 pub returns : goal.returns
 returns c = climb_over c.args.tables.now c.args.from c.args.ancestor c.loop-turn.turn c.loop-turn.at c.loop-turn.invariant (omega arith)

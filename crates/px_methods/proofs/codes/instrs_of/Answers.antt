@@ -1,5 +1,6 @@
 use Rattle.std.proofs.Common.{◌≡◌, true, refl}
-use Rattle.px_reach.specs.Met.{is_in, target_of}
+use Rattle.px_meta.specs.Rows.{is_in}
+use Rattle.px_reach.specs.Met.{target_of}
 use Rattle.px_types.specs.Numbers.{is_numbered}
 use Rattle.px_methods.specs.Codes.{IsInstr}
 use Rattle.px_methods.specs.Methods.{keys_of_instr}

@@ -1,5 +1,5 @@
 use Rattle.std.proofs.Common.{◌∷◌, sym, ap, ◌∙◌}
-use Rattle.px_operands.specs.Outside.{is_in}
+use Rattle.px_meta.specs.Rows.{is_in}
 use Rattle.px_operands.proofs.Around.{around_back, around_begun, around_ended, around_on, fewer_scopes}
 use Rattle.px_operands.proofs.scopes.scopes_of.Goals as goal
 

@@ -1,6 +1,6 @@
 use Rattle.std.proofs.Common.{◌≡◌, sym, subst, arith}
 use Rattle.std.proofs.lemmas.Option.{slice_get_within}
-use Rattle.px_relink.specs.Describes.{method_row}
+use Rattle.px_described.specs.Describes.{method_row}
 use Rattle.px_asm.specs.Kept.{IsMethod}
 use Rattle.px_asm.proofs.RowCounts.{few_method_row}
 use Rattle.px_asm.proofs.RowSetting.{row_at}

@@ -1,8 +1,8 @@
 use Rattle.std.proofs.Common.{◌≡◌, ◌+◌, ◌<◌, length, sym, ap, subst, ◌∙◌, arith}
 use Rattle.std.specs.Prelude.{Some, slice_get}
 use Rattle.std.specs.List.{AllByRecursion}
+use Rattle.px_meta.specs.Rows.{is_in}
 use Rattle.px_methods.specs.Codes.{place_of}
-use Rattle.px_reach.specs.Met.{is_in}
 use Rattle.px_asm.proofs.RowCounts.{few_laid, method_is_in}
 use Rattle.px_asm.proofs.rows.Rows.new.Goals as goal
 

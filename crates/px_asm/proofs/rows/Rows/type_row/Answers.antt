@@ -1,5 +1,5 @@
 use Rattle.std.proofs.Common.{sym, subst, arith}
-use Rattle.px_relink.specs.Describes.{type_row}
+use Rattle.px_described.specs.Describes.{type_row}
 use Rattle.px_asm.specs.Rows.{IsLaid}
 use Rattle.px_asm.proofs.RowCounts.{few_type_row}
 use Rattle.px_asm.proofs.RowSetting.{row_at}

@@ -1,8 +1,8 @@
 use Rattle.std.proofs.Common.{◌≡◌, ◌+◌, ◌*◌, ◌<◌, ◌^◌, length, subst}
 use Rattle.std.specs.Prelude.{codes}
 use Rattle.px_encode.specs.Heaps.{HasString}
-use Rattle.px_asm.specs.Store.{AreReferences, IsConstructorRow}
-use Rattle.px_asm.specs.Tokens.{HasConstructor}
+use Rattle.px_written.specs.Store.{AreReferences, IsConstructorRow}
+use Rattle.px_written.specs.Tokens.{HasConstructor}
 use Rattle.px_asm.proofs.StoreMade.{has_constructor, if_added, is_constructor_row, more_references, on_added, with_row}
 use Rattle.px_asm.proofs.store.Store.constructor.Goals as goal
 

@@ -2,7 +2,7 @@ use Rattle.std.proofs.Common.{ap, ◌∙◌, subst}
 use Rattle.std.specs.Prelude.{Ok, codes}
 use Rattle.px_encode.specs.Heaps.{HasBlob, HasString}
 use Rattle.px_sig.specs.Grammar.{method_sig}
-use Rattle.px_asm.specs.Store.{HasSig, check_sig}
+use Rattle.px_written.specs.Store.{HasSig, check_sig}
 use Rattle.px_asm.proofs.StoreMade.{is_reference, two_checks}
 use Rattle.px_asm.proofs.StoreStays.{string_stays}
 use Rattle.px_asm.proofs.store.Store.new.Goals as goal

@@ -4,16 +4,16 @@ use Rattle.std.specs.Prelude.{◌==◌, ◌&&◌, ◌||◌, codes, if◌then◌e
 use Rattle.std.specs.List.{AllByRecursion, range_with_len}
 use Rattle.std.specs.Str.{bytes_eq}
 use Rattle.std.proofs.lemmas.Option.{slice_get-get_or}
-use Rattle.px_asm.proofs.DescribedLists.{range_at, zip_length}
-use Rattle.px_asm.proofs.DescribedView.{Put, cell_written, count_written, row_there, store, text_read, rows_at, view}
-use Rattle.px_asm.specs.Holds.{IsTypeRef, Referred, all_referred}
-use Rattle.px_link.proofs.Places.{beside}
+use Rattle.px_written.proofs.DescribedLists.{range_at, zip_length}
+use Rattle.px_written.proofs.DescribedView.{Put, cell_written, count_written, row_there, store, text_read, rows_at, view}
+use Rattle.px_written.specs.Holds.{IsTypeRef, Referred, all_referred}
+use Rattle.px_methods.proofs.RowPlaces.{beside}
 use Rattle.px_meta.specs.Rows.{IsRow, cell, count_of, text_at, type_refs}
 use Rattle.px_operands.specs.Operands.{check_in}
 use Rattle.px_program.proofs.Types.{each_at}
 use Rattle.px_program.specs.declared.instr.Check.{Check}
 use Rattle.px_program.specs.declared.instr.Check.TheVariants.{Assert, Assume}
-use Rattle.px_relink.specs.Describes.{IsLibraryRow}
+use Rattle.px_described.specs.Describes.{IsLibraryRow}
 use Rattle.px_types.specs.Keys.{is_system, is_value_base, library_number, ref_name}
 
 abbrev nothing : Referred

@@ -4,16 +4,16 @@ use Rattle.std.specs.Prelude.{◌==◌, ◌&&◌, if◌then◌else◌, nat_le, s
 use Rattle.std.specs.List.{AllZip}
 use Rattle.std.proofs.lemmas.Bool.{and_from, cond-false, cond-true, le-leb, ne_eqb}
 use Rattle.std.proofs.lemmas.Option.{same_Some}
-use Rattle.px_asm.proofs.DescribedLists.{token_row, token_table, zip_weaken}
-use Rattle.px_relink.proofs.StandingPlaces.{place_at_once}
-use Rattle.px_asm.proofs.DescribedTokens.{few_row, token_names}
-use Rattle.px_asm.proofs.DescribedView.{Put, cell_written, few_written, image, row_there, rows_at, sig_written, store, view}
-use Rattle.px_asm.specs.Holds.{HasBodyAt, IsAddress, IsInstrIn, IsLocals, first_body}
+use Rattle.px_image.specs.Image.{first_body}
+use Rattle.px_written.proofs.DescribedLists.{token_row, token_table, zip_weaken}
+use Rattle.px_methods.proofs.RowPlaces.{beside, place_at_once}
+use Rattle.px_written.proofs.DescribedTokens.{few_row, token_names}
+use Rattle.px_written.proofs.DescribedView.{Put, cell_written, few_written, image, row_there, rows_at, sig_written, store, view}
+use Rattle.px_written.specs.Holds.{HasBodyAt, IsAddress, IsInstrIn, IsLocals}
 use Rattle.px_code.specs.Body.{body_of}
 use Rattle.px_code.specs.Reading.{◌>>=◌}
 use Rattle.px_code.specs.declared.body.Body.{Body}
 use Rattle.px_code.specs.declared.body.RawInstr.{RawInstr}
-use Rattle.px_link.proofs.Places.{beside}
 use Rattle.px_meta.specs.Rows.{IsRow, cell, count_of, methods, some_row}
 use Rattle.px_meta.specs.Tokens.{row_in, table_in}
 use Rattle.px_pe.specs.Image as pe
@@ -26,7 +26,7 @@ use Rattle.px_program.specs.Formed.{HasOperands, IsFormedIn}
 use Rattle.px_program.specs.declared.instr.Instr.{Instr}
 use Rattle.px_program.specs.declared.program.Method.{Method}
 use Rattle.px_reach.specs.Bodies.{body_at, body_in, locals_at, locals_in, no_body, stand_alone_sigs, whole_at, whole_of, with_locals}
-use Rattle.px_relink.specs.Describes.{IsBodyOf, IsCodeRow, IsInstrOf, IsTypeOf, method_row}
+use Rattle.px_described.specs.Describes.{IsBodyOf, IsCodeRow, IsInstrOf, IsTypeOf, method_row}
 use Rattle.px_sig.specs.Grammar.{locals_sig}
 use Rattle.px_sig.specs.declared.sig.SigType.{SigType}
 

@@ -4,18 +4,17 @@ use Rattle.std.specs.Prelude.{◌==◌, ◌&&◌, if◌then◌else◌, IfSome, n
 use Rattle.std.specs.List.{range_with_len}
 use Rattle.std.proofs.lemmas.Bool.{and_from, and_left, and_right, cond-false, cond-true, le-leb, le-ltb, lt-ltb, not_from_false}
 use Rattle.std.proofs.lemmas.Option.{same_Some, slice_get_within}
-use Rattle.px_asm.proofs.DescribedFields.{instances_described, statics_described}
-use Rattle.px_asm.proofs.DescribedLibrary.{no_value_base}
-use Rattle.px_asm.proofs.DescribedMembers.{HasTypeAt, module_written, type_at, type_cell}
-use Rattle.px_asm.proofs.DescribedView.{Put, cell_written, count_written, readable, text_read, view}
+use Rattle.px_written.proofs.DescribedFields.{instances_described, statics_described}
+use Rattle.px_written.proofs.DescribedLibrary.{no_value_base}
+use Rattle.px_written.proofs.DescribedMembers.{HasTypeAt, module_written, type_at, type_cell}
+use Rattle.px_written.proofs.DescribedView.{Put, cell_written, count_written, readable, text_read, view}
 use Rattle.px_meta.specs.Chains.{base_in, encloser, nesting_in, outer_of}
 use Rattle.px_meta.specs.Faults.{HasNames}
 use Rattle.px_meta.specs.FullNames.{own_name, with_namespace}
-use Rattle.px_meta.specs.Rows.{cell, count_of, row_by, some_row, text_at, type_defs}
+use Rattle.px_meta.specs.Rows.{cell, count_of, is_in, row_by, some_row, text_at, type_defs}
 use Rattle.px_program.specs.declared.program.Program.{Program}
 use Rattle.px_program.specs.declared.program.TypeInfo.{TypeInfo}
-use Rattle.px_reach.specs.Met.{is_in}
-use Rattle.px_relink.specs.Describes.{IsTypeRow, base_of, type_row}
+use Rattle.px_described.specs.Describes.{IsTypeRow, base_of, type_row}
 use Rattle.px_tables.specs.Counts.{has_bit}
 use Rattle.px_tables.specs.Metadata.{View}
 use Rattle.px_types.specs.Keys.{base_index, is_class, is_value, is_value_base}

@@ -2,10 +2,10 @@
 use Rattle.std.proofs.Common.{◌≡◌, ℕ, ◌+◌, ◌-◌, ◌≤◌, ◌<◌, ◌^◌, List, [], length, append-nil, Some, Result, refl, sym, ap, ◌∙◌, subst, arith}
 use Rattle.std.specs.Prelude.{slice_get, slice_index}
 use Rattle.std.proofs.lemmas.Option.{slice_get_within}
-use Rattle.px_asm.proofs.DescribedLists.{item_at}
-use Rattle.px_asm.specs.Holds.{table_in}
-use Rattle.px_asm.specs.Store.{HasSig, Store}
-use Rattle.px_asm.specs.Written.{IsWritten}
+use Rattle.px_written.proofs.DescribedLists.{item_at}
+use Rattle.px_written.specs.Holds.{table_in}
+use Rattle.px_written.specs.Store.{HasSig, Store}
+use Rattle.px_written.specs.Written.{IsWritten}
 use Rattle.px_blobs.specs.Items.{IsStringAt, blob_at}
 use Rattle.px_encode.specs.Heaps.{HasBlob, HasString}
 use Rattle.px_image.specs.Image.{IsImageOf}
@@ -16,7 +16,7 @@ use Rattle.px_meta.specs.Members.{read_of}
 use Rattle.px_meta.specs.Rows.{IsReadable, IsRow, cell, count_of, text_at}
 use Rattle.px_pe.specs.Image as pe
 use Rattle.px_program.specs.declared.program.Program.{Program}
-use Rattle.px_relink.specs.Writable.{IsWritable}
+use Rattle.px_described.specs.Writable.{IsWritable}
 use Rattle.px_tables.specs.Metadata.{View}
 use Rattle.px_tables.specs.declared.tables.Row.{Row}
 

@@ -4,24 +4,23 @@ use Rattle.std.specs.Prelude.{IfSome, IsSome, slice_get, slice_index}
 use Rattle.std.specs.Option.{is_some}
 use Rattle.std.proofs.lemmas.Bool.{cases_eq}
 use Rattle.std.proofs.lemmas.Option.{same_Some}
-use Rattle.px_asm.proofs.DescribedLists.{before}
-use Rattle.px_asm.proofs.DescribedMembers.{HasTypeAt, fields_before, fields_listed, methods_listed, module_written, type_at, types_written}
-use Rattle.px_asm.proofs.DescribedOwners.{AreListed, module_end, type_end}
-use Rattle.px_asm.proofs.DescribedTypes.{assembly_base, assembly_index, base_is, library_base, library_index, name_readable, no_base_of_module, none_nested}
-use Rattle.px_asm.proofs.DescribedView.{Put, cell_written, put_row, readable, rows_at, sig_written, store, view}
-use Rattle.px_asm.specs.Holds.{IsFieldDef, IsMethodDef, IsSpecRow, IsTypeRef, all_places, all_referred, methods_before}
-use Rattle.px_asm.specs.Store.{IsReference}
-use Rattle.px_asm.specs.Tokens.{fields_of}
-use Rattle.px_link.proofs.Places.{at_place_of, place_below}
+use Rattle.px_written.proofs.DescribedLists.{before}
+use Rattle.px_written.proofs.DescribedMembers.{HasTypeAt, fields_before, fields_listed, methods_listed, module_written, type_at, types_written}
+use Rattle.px_written.proofs.DescribedOwners.{AreListed, module_end, type_end}
+use Rattle.px_written.proofs.DescribedTypes.{assembly_base, assembly_index, base_is, library_base, library_index, name_readable, no_base_of_module, none_nested}
+use Rattle.px_written.proofs.DescribedView.{Put, cell_written, put_row, readable, rows_at, sig_written, store, view}
+use Rattle.px_written.specs.Holds.{IsFieldDef, IsMethodDef, IsSpecRow, IsTypeRef, all_places, all_referred, methods_before}
+use Rattle.px_written.specs.Store.{IsReference}
+use Rattle.px_written.specs.Tokens.{fields_of}
+use Rattle.px_methods.proofs.RowPlaces.{at_place_of, place_below}
 use Rattle.px_meta.specs.Chains.{Ends, GoesOn, HasEnd, base_in, outer_of}
 use Rattle.px_meta.specs.Faults.{Bases, Field, HasFault, HasLists, HasNames, IsFaultless, IsWholeField, IsWholeMethod, IsWholeReference, Lists, MemberRef, Method, Outers, TypeDef, TypeRef, TypeSpec}
 use Rattle.px_meta.specs.Members.{field_sig_at, list_end, list_start, method_sig_at, type_sig_at}
-use Rattle.px_meta.specs.Rows.{IsRow, cell, fields, member_refs, methods, row_by, type_defs, type_refs, type_specs}
+use Rattle.px_meta.specs.Rows.{IsRow, cell, fields, is_in, member_refs, methods, row_by, type_defs, type_refs, type_specs}
 use Rattle.px_meta.specs.declared.fault.MetaKind.{MetaKind}
 use Rattle.px_methods.specs.Codes.{place_of}
 use Rattle.px_program.specs.Formed as formed
-use Rattle.px_reach.specs.Met.{is_in}
-use Rattle.px_relink.specs.Describes.{base_of}
+use Rattle.px_described.specs.Describes.{base_of}
 use Rattle.px_sig.specs.Grammar.{field_sig, method_sig, type_sig}
 use Rattle.px_sig.specs.declared.sig.MethodSig.{MethodSig}
 use Rattle.px_tables.specs.Metadata.{View}

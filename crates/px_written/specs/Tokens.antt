@@ -18,9 +18,9 @@ use Rattle.px_program.specs.declared.program.Place.{Place}
 use Rattle.px_program.specs.declared.program.Place.TheVariants as places
 use Rattle.px_program.specs.declared.program.Program.{Program}
 use Rattle.px_program.specs.declared.program.TypeInfo.{TypeInfo}
-use Rattle.px_relink.specs.Describes.{HasElement, method_row}
+use Rattle.px_described.specs.Describes.{HasElement, method_row}
 use Rattle.px_tables.specs.declared.tables.Row.{Row}
-use Rattle.px_asm.specs.Store.{IsConstructorRow, Store}
+use Rattle.px_written.specs.Store.{IsConstructorRow, Store}
 
 abbrev pub token : ℕ → ℕ → ℕ
 token table row = table * 2 ^ 24 + row

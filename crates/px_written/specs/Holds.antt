@@ -5,6 +5,7 @@ use Rattle.px_code.specs.Body.{IsFormed, body_of}
 use Rattle.px_code.specs.declared.body.Body.{Body}
 use Rattle.px_code.specs.declared.body.RawInstr.{RawInstr}
 use Rattle.px_encode.specs.Heaps.{HasString}
+use Rattle.px_image.specs.Image.{first_body}
 use Rattle.px_meta.specs.FullNames.{with_namespace}
 use Rattle.px_program.specs.Library.{library_types}
 use Rattle.px_program.specs.declared.instr.Instr.{Instr}
@@ -15,15 +16,15 @@ use Rattle.px_program.specs.declared.program.Program.{Program}
 use Rattle.px_program.specs.declared.program.Slot.{Slot}
 use Rattle.px_program.specs.declared.program.TypeInfo.{TypeInfo}
 use Rattle.px_recode.specs.Recoding.{IsRawOf}
-use Rattle.px_relink.specs.Describes.{IsSigOf, IsTypeOf, base_of, method_row, raw_clause, type_row}
-use Rattle.px_relink.specs.Writable.{owner_in, owner_place}
+use Rattle.px_described.specs.Describes.{IsSigOf, IsTypeOf, base_of, method_row, raw_clause, type_row}
+use Rattle.px_described.specs.Writable.{owner_in, owner_place}
 use Rattle.px_sig.specs.Grammar.{field_sig, locals_sig, method_sig, type_sig}
 use Rattle.px_sig.specs.declared.sig.MethodSig.{MethodSig}
 use Rattle.px_sig.specs.declared.sig.SigType.{SigType}
 use Rattle.px_tables.specs.Counts.{has_bit}
 use Rattle.px_tables.specs.declared.tables.Row.{Row}
-use Rattle.px_asm.specs.Store.{AreReferences, HasSig, Store}
-use Rattle.px_asm.specs.Tokens.{HasTokenIn, fields_of, first_field}
+use Rattle.px_written.specs.Store.{AreReferences, HasSig, Store}
+use Rattle.px_written.specs.Tokens.{HasTokenIn, fields_of, first_field}
 
 -- REFERENCES TO TYPES
 
@@ -110,10 +111,6 @@ pub record HasBodyAt (p : Program) (s : Store) (bodies : List ℕ) (row : ℕ) (
   pub body : Body
   pub read : (rest : List ℕ) → body_of (drop at bodies ++ rest) ≡ Ok body
   pub is : IsBodyIn p s row method body
-
--- the address of the first body
-abbrev pub first_body : ℕ
-first_body = 0x2048
 
 pub record HasCode (p : Program) (s : Store) (bodies : List ℕ) (row : ℕ) (method : Method) (address : ℕ) : Type 0 where
   pub at : ℕ

@@ -1,19 +1,19 @@
 -- What is written of a program describes it.
 use Rattle.std.proofs.Common.{ℕ, List}
-use Rattle.px_asm.proofs.DescribedFaults.{faultless}
-use Rattle.px_asm.proofs.DescribedImpls.{impls_described}
-use Rattle.px_asm.proofs.DescribedLibrary.{library_named}
-use Rattle.px_asm.proofs.DescribedMembers.{methods_written, types_written}
-use Rattle.px_asm.proofs.DescribedMethods.{method_described, slot_described}
-use Rattle.px_asm.proofs.DescribedTypes.{type_described}
-use Rattle.px_asm.proofs.DescribedView.{Put, few_written, image, view}
+use Rattle.px_written.proofs.DescribedFaults.{faultless}
+use Rattle.px_written.proofs.DescribedImpls.{impls_described}
+use Rattle.px_written.proofs.DescribedLibrary.{library_named}
+use Rattle.px_written.proofs.DescribedMembers.{methods_written, types_written}
+use Rattle.px_written.proofs.DescribedMethods.{method_described, slot_described}
+use Rattle.px_written.proofs.DescribedTypes.{type_described}
+use Rattle.px_written.proofs.DescribedView.{Put, few_written, image, view}
 use Rattle.px_image.specs.Image.{IsImageOf}
 use Rattle.px_image.specs.Layout.{Fits, IsMetadataOf}
 use Rattle.px_image.specs.declared.content.Content.{Content}
 use Rattle.px_program.specs.declared.program.Program.{Program}
-use Rattle.px_relink.specs.Describes.{Describes}
-use Rattle.px_relink.specs.Writable.{IsWritable}
-use Rattle.px_asm.specs.Written.{IsWritten}
+use Rattle.px_described.specs.Describes.{Describes}
+use Rattle.px_described.specs.Writable.{IsWritable}
+use Rattle.px_written.specs.Written.{IsWritten}
 
 all_described : (a : Put) → Describes a.p (view a) (image a)
 all_described a = record {

@@ -3,12 +3,12 @@ use Rattle.std.proofs.Common.{◌≡◌, ℕ, ◌+◌, ◌<◌, Bool, true, fals
 use Rattle.std.specs.Prelude.{slice_get, slice_index}
 use Rattle.std.proofs.lemmas.List.{length-append, length-map, take_all}
 use Rattle.std.proofs.lemmas.Option.{slice_get_within}
-use Rattle.px_asm.proofs.DescribedLists.{below, below_few, below_many, below_rises, flat_more, flat_rises, item_at, zip_length}
-use Rattle.px_asm.proofs.DescribedOwners.{AreListed, owner_listed, stands_between}
-use Rattle.px_asm.proofs.DescribedView.{Put, cell_written, count_written, rows_at, store, view}
-use Rattle.px_asm.specs.Holds.{IsFieldDef, IsMethodDef, IsModule, IsTypeDef, methods_before}
-use Rattle.px_asm.specs.Tokens.{fields_in, fields_of}
-use Rattle.px_link.proofs.Places.{place_below}
+use Rattle.px_written.proofs.DescribedLists.{below, below_few, below_many, below_rises, flat_more, flat_rises, item_at, zip_length}
+use Rattle.px_written.proofs.DescribedOwners.{AreListed, owner_listed, stands_between}
+use Rattle.px_written.proofs.DescribedView.{Put, cell_written, count_written, rows_at, store, view}
+use Rattle.px_written.specs.Holds.{IsFieldDef, IsMethodDef, IsModule, IsTypeDef, methods_before}
+use Rattle.px_written.specs.Tokens.{fields_in, fields_of}
+use Rattle.px_methods.proofs.RowPlaces.{place_below}
 use Rattle.px_meta.specs.Members.{owner_of}
 use Rattle.px_meta.specs.Rows.{cell, count_of, fields, methods, type_defs}
 use Rattle.px_methods.specs.Codes.{place_of}
@@ -16,8 +16,8 @@ use Rattle.px_program.proofs.Types.{each_at}
 use Rattle.px_program.specs.declared.program.Method.{Method}
 use Rattle.px_program.specs.declared.program.Place.{Place}
 use Rattle.px_program.specs.declared.program.TypeInfo.{TypeInfo}
-use Rattle.px_relink.specs.Describes.{type_row}
-use Rattle.px_relink.specs.Writable.{HasOwner, IsAssemblyType, owner_in, owner_place}
+use Rattle.px_described.specs.Describes.{type_row}
+use Rattle.px_described.specs.Writable.{HasOwner, IsAssemblyType, owner_in, owner_place}
 use Rattle.px_tables.specs.declared.tables.Row.{Row}
 
 -- TYPES

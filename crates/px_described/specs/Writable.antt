@@ -2,6 +2,7 @@
 use Rattle.std.specs.Prelude.{◌≡◌, ◌≢◌, ℕ, ◌≤◌, ◌<◌, List, ◌++◌, codes, length, All, IsUtf8, IfSome, Option, Some, None, true, slice_get}
 use Rattle.std.specs.List.{AllByRecursion, AllPairs, IsDistinct}
 use Rattle.std.specs.Prelude.{◌==◌, ◌⊎◌}
+use Rattle.px_meta.specs.Rows.{is_in}
 use Rattle.px_methods.specs.Codes.{place_of}
 use Rattle.px_program.specs.Formed.{IsWellFormed}
 use Rattle.px_program.specs.declared.instr.Instr.{Instr}
@@ -10,7 +11,6 @@ use Rattle.px_program.specs.declared.program.Method.{Method}
 use Rattle.px_program.specs.declared.program.Program.{Program}
 use Rattle.px_program.specs.declared.program.Slot.{Slot}
 use Rattle.px_program.specs.declared.program.TypeInfo.{TypeInfo}
-use Rattle.px_reach.specs.Met.{is_in}
 use Rattle.px_recode.specs.Recoding.{HasRaw, token_opcode}
 
 -- a text that a heap of strings can have

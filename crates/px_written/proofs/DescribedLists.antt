@@ -1,13 +1,12 @@
 -- Lists side by side, lists in order, and ranges.
 use Rattle.std.proofs.Common.{◌≡◌, ℕ, zero, suc, ◌+◌, ◌-◌, ◌*◌, ◌/◌, ◌%◌, ◌^◌, ◌<◌, ◌≤◌, Bool, true, false, cond, List, [], ◌∷◌, ◌++◌, length, take, Some, refl, sym, ap, ◌∙◌, subst, ⊎_elim, arith, eqb-true, eq-eqb}
-use Rattle.std.specs.Prelude.{◌==◌, nat_lt, filter, find, slice_get}
+use Rattle.std.specs.Prelude.{◌==◌, ◌||◌, nat_lt, filter, find, slice_get}
 use Rattle.std.specs.List.{AllByRecursion, AllZip, IsDistinct, flat_map, list_any, range_with_len}
-use Rattle.std.proofs.lemmas.Bool.{cases_eq, cases_lt, cond-false, cond-true, cond_both, le-ltb, lt-ltb, ltb-true, ne_eqb, or_cases, or_left, or_right}
+use Rattle.std.proofs.lemmas.Bool.{cases_Bool, cases_eq, cases_lt, cond-false, cond-true, cond_both, le-ltb, lt-ltb, ltb-true, or_cases}
 use Rattle.std.proofs.lemmas.List.{length-append}
 use Rattle.std.proofs.lemmas.Map.Steps.{length-le_from_distinct_below}
 use Rattle.std.proofs.lemmas.Option.{same_Some, slice_get_within}
-use Rattle.px_link.proofs.Places.{one_of_each}
-use Rattle.px_reach.specs.Met.{is_in}
+use Rattle.px_meta.specs.Rows.{is_in}
 
 -- SIDE BY SIDE
 
@@ -101,43 +100,42 @@ flat_from f (x ∷ xs) n y at =
     record { i = suc later.i; x = later.x; at = later.at; k = later.k; own = later.own; place = let e = later.place in omega arith })
     (cases_lt n (length (f x)))
 
--- NUMBERS THAT STAND ONCE
+-- DISTINCT NUMBERS BELOW A BOUND
 
-turned : (x y : ℕ) → (x == y) ≡ (y == x)
-turned x y = by (y == x) refl
+below_each : (bound : ℕ) (numbers : List ℕ) → AllByRecursion (λ number. number < bound) numbers → (number : ℕ) → list_any (λ other. number == other) numbers ≡ true → number < bound
+below_each bound [] below number there = absurd (cc)
+below_each bound (other ∷ numbers) below number there =
+    ⊎_elim
+    (λ same. let e = eqb-true number other same in omega (arith, e, below.0))
+    (λ later. below_each bound numbers below.1 number later)
+    (or_cases (number == other) (list_any (λ other. number == other) numbers) there)
+
+-- there are no more of them than below the bound
+pub few_distinct : (numbers : List ℕ) (bound : ℕ) → IsDistinct (λ one other. one == other) numbers → AllByRecursion (λ number. number < bound) numbers → length numbers ≤ bound
+few_distinct numbers bound distinct below = length-le_from_distinct_below numbers bound distinct (below_each bound numbers below)
+
+absent : (number : ℕ) (numbers : List ℕ) → is_in numbers number ≡ false → AllByRecursion (λ other. (number == other) ≡ false) numbers
+absent number [] out = tt
+absent number (other ∷ numbers) out = (
+  ⊎_elim
+      (λ same. let e : other ≡ number = sym (eqb-true number other same) in let here = eq-eqb other number e in absurd (cc))
+      (λ differs. differs)
+      (cases_Bool (number == other)),
+  absent number numbers (later (other == number) (is_in numbers number) out),
+)
   where
-    by : (is : Bool) → (y == x) ≡ is → (x == y) ≡ is
-    by true e = eq-eqb x y (sym (eqb-true y x e))
-    by false e = ne_eqb x y (λ same. let f = eq-eqb y x (sym same) in absurd (cc))
+    later : (one other : Bool) → (one || other) ≡ false → other ≡ false
+    later true other e = absurd (cc)
+    later false other e = e
 
-among_turned : (xs : List ℕ) (x : ℕ) → list_any (λ z. x == z) xs ≡ is_in xs x
-among_turned [] x = refl
-among_turned (y ∷ xs) x = let first = turned x y in let later = among_turned xs x in cc
-
-none_by : (x y : ℕ) (xs : List ℕ) (one more : Bool) → (y == x) ≡ one → is_in xs x ≡ more → is_in (y ∷ xs) x ≡ false → (is_in xs x ≡ false → AllByRecursion (λ z. (x == z) ≡ false) xs) → AllByRecursion (λ z. (x == z) ≡ false) (y ∷ xs)
-none_by x y xs true more e f n later = absurd (let h : is_in (y ∷ xs) x ≡ true = or_left (y == x) (is_in xs x) e in cc)
-none_by x y xs false true e f n later = absurd (let h : is_in (y ∷ xs) x ≡ true = or_right (y == x) (is_in xs x) f in cc)
-none_by x y xs false false e f n later = (turned x y ∙ e, later f)
-
-none_among : (xs : List ℕ) (x : ℕ) → is_in xs x ≡ false → AllByRecursion (λ y. (x == y) ≡ false) xs
-none_among [] x none = tt
-none_among (y ∷ xs) x none = none_by x y xs (y == x) (is_in xs x) refl refl none (none_among xs x)
-
--- as many different numbers below a number as it says are all of them
-pub all_there : (xs : List ℕ) (n x : ℕ) → IsDistinct (λ y z. y == z) xs → AllByRecursion (λ y. y < n) xs → length xs ≡ n → x < n → is_in xs x ≡ true
+-- as many of them as there are below the bound are all of these
+pub all_there : (numbers : List ℕ) (bound number : ℕ) → IsDistinct (λ one other. one == other) numbers → AllByRecursion (λ other. other < bound) numbers → length numbers ≡ bound → number < bound → is_in numbers number ≡ true
 unfolding IsDistinct
-all_there xs n x once below size less = by (is_in xs x) refl
-  where
-    below_each : is_in xs x ≡ false → (q : ℕ) → list_any (λ z. q == z) (x ∷ xs) ≡ true → q < n
-    below_each none q any =
-        ⊎_elim
-        (λ same. let e : q ≡ x = eqb-true q x same in omega arith)
-        (λ later. one_of_each (λ y. y < n) xs q below (sym (among_turned xs q) ∙ later))
-        (or_cases (q == x) (list_any (λ z. q == z) xs) any)
-
-    by : (is : Bool) → is_in xs x ≡ is → is_in xs x ≡ true
-    by true e = e
-    by false e = absurd (let few = length-le_from_distinct_below (x ∷ xs) n (none_among xs x e, once) (below_each e) in omega arith)
+all_there numbers bound number distinct below count less =
+    ⊎_elim
+    (λ there. there)
+    (λ out. absurd (let more = few_distinct (number ∷ numbers) bound (absent number numbers out, distinct) (less, below) in omega (arith, more, count)))
+    (cases_Bool (is_in numbers number))
 
 -- LISTS IN ORDER
 

@@ -6,19 +6,18 @@ use Rattle.std.specs.Option.{option_map}
 use Rattle.std.proofs.lemmas.Bool.{and_from, and_left, and_right, cases_lt, not_from_false, not_from_true}
 use Rattle.std.proofs.lemmas.List.{length-map}
 use Rattle.std.proofs.lemmas.Option.{slice_get-map, slice_get_within}
-use Rattle.px_asm.proofs.DescribedLists.{all_pass, filter_joined, flat_at, item_at, left_at, none_pass, range_at_is, range_length, right_at}
-use Rattle.px_relink.proofs.StandingPlaces.{zip_at}
-use Rattle.px_asm.proofs.DescribedMembers.{fields_before, fields_listed, fields_next, kind}
-use Rattle.px_asm.proofs.DescribedOwners.{not_of, owner_listed, type_end}
-use Rattle.px_asm.proofs.DescribedView.{Put, cell_written, rows_at, sig_written, store, view}
-use Rattle.px_asm.specs.Holds.{IsFieldDef}
-use Rattle.px_asm.specs.Tokens.{fields_in, fields_of}
-use Rattle.px_link.proofs.Places.{beside}
+use Rattle.px_written.proofs.DescribedLists.{all_pass, filter_joined, flat_at, item_at, left_at, none_pass, range_at_is, range_length, right_at}
+use Rattle.px_methods.proofs.RowPlaces.{beside, zip_at}
+use Rattle.px_written.proofs.DescribedMembers.{fields_before, fields_listed, fields_next, kind}
+use Rattle.px_written.proofs.DescribedOwners.{not_of, owner_listed, type_end}
+use Rattle.px_written.proofs.DescribedView.{Put, cell_written, rows_at, sig_written, store, view}
+use Rattle.px_written.specs.Holds.{IsFieldDef}
+use Rattle.px_written.specs.Tokens.{fields_in, fields_of}
 use Rattle.px_meta.specs.Members.{owner_of}
 use Rattle.px_meta.specs.Rows.{cell, count_of, fields}
 use Rattle.px_program.specs.declared.program.Place.{Place}
 use Rattle.px_program.specs.declared.program.TypeInfo.{TypeInfo}
-use Rattle.px_relink.specs.Describes.{IsFieldRow}
+use Rattle.px_described.specs.Describes.{IsFieldRow}
 use Rattle.px_sig.specs.Grammar.{field_sig}
 use Rattle.px_tables.specs.Counts.{has_bit}
 use Rattle.px_types.specs.Numbers.{instance_fields, is_field_of, is_static_field, static_fields}

@@ -4,20 +4,20 @@ use Rattle.std.specs.Prelude.{◌==◌, ◌&&◌, codes, if◌then◌else◌, If
 use Rattle.std.specs.List.{range_with_len}
 use Rattle.std.proofs.lemmas.Bool.{and_from, cases_lt, cond-true, le-leb}
 use Rattle.std.proofs.lemmas.Option.{slice_get_within}
-use Rattle.px_asm.proofs.DescribedFields.{instances_are, mapped_at, statics_are}
-use Rattle.px_asm.proofs.DescribedImpls.{method_row_there}
-use Rattle.px_asm.proofs.DescribedLibrary.{all_refs, check_by}
-use Rattle.px_asm.proofs.DescribedLists.{range_at, right_at, token_row, token_table}
-use Rattle.px_asm.proofs.DescribedMembers.{fields_before, fields_listed, fields_next}
-use Rattle.px_asm.proofs.DescribedView.{Put, cell_written, few_written, row_there, rows_at, sig_written, store, text_read, units_written, view}
-use Rattle.px_asm.specs.Holds.{IsSpecRow, all_places, integer_places}
-use Rattle.px_asm.specs.Store.{IsReference, check_sig, constructor_sig}
-use Rattle.px_asm.specs.Tokens.{HasConstructor, HasElementAt, HasTextAt, HasTokenIn, check_row, field_row, instance_count, spec_row, static_row, token}
+use Rattle.px_written.proofs.DescribedFields.{instances_are, mapped_at, statics_are}
+use Rattle.px_written.proofs.DescribedImpls.{method_row_there}
+use Rattle.px_written.proofs.DescribedLibrary.{all_refs, check_by}
+use Rattle.px_written.proofs.DescribedLists.{range_at, right_at, token_row, token_table}
+use Rattle.px_written.proofs.DescribedMembers.{fields_before, fields_listed, fields_next}
+use Rattle.px_written.proofs.DescribedView.{Put, cell_written, few_written, row_there, rows_at, sig_written, store, text_read, units_written, view}
+use Rattle.px_written.specs.Holds.{IsSpecRow, all_places, integer_places}
+use Rattle.px_written.specs.Store.{IsReference, check_sig, constructor_sig}
+use Rattle.px_written.specs.Tokens.{HasConstructor, HasElementAt, HasTextAt, HasTokenIn, check_row, field_row, instance_count, spec_row, static_row, token}
 use Rattle.px_blobs.specs.Items.{blob_at}
 use Rattle.px_encode.specs.Heaps.{unit_bytes}
-use Rattle.px_link.proofs.Places.{at_place_of, beside}
+use Rattle.px_methods.proofs.RowPlaces.{at_place_of, beside}
 use Rattle.px_meta.specs.Members.{method_sig_at, type_sig_at}
-use Rattle.px_meta.specs.Rows.{IsRow, cell, count_of, fields, member_refs, methods, some_row, type_refs, type_specs}
+use Rattle.px_meta.specs.Rows.{IsRow, cell, count_of, fields, is_in, member_refs, methods, some_row, type_refs, type_specs}
 use Rattle.px_meta.specs.Tokens.{row_in, table_in}
 use Rattle.px_methods.specs.Codes.{place_of}
 use Rattle.px_operands.specs.Operands.{check_in, member_name, parent_ref, text_at_token, text_of, units_of}
@@ -36,8 +36,7 @@ use Rattle.px_program.specs.declared.program.Place.{Place}
 use Rattle.px_program.specs.declared.program.Place.TheVariants as places
 use Rattle.px_program.specs.declared.program.Program.{Program}
 use Rattle.px_program.specs.declared.program.TypeInfo.{TypeInfo}
-use Rattle.px_reach.specs.Met.{is_in}
-use Rattle.px_relink.specs.Describes.{Names, NamesCheck, NamesConstructor, NamesField, NamesMethod, Spells, SpellsElement, method_row}
+use Rattle.px_described.specs.Describes.{Names, NamesCheck, NamesConstructor, NamesField, NamesMethod, Spells, SpellsElement, method_row}
 use Rattle.px_sig.specs.Grammar.{method_sig, type_sig}
 use Rattle.px_sig.specs.declared.sig.MethodSig.{MethodSig}
 use Rattle.px_tables.specs.Metadata.{View}

@@ -4,18 +4,16 @@ use Rattle.std.specs.Prelude.{◌==◌, ◌&&◌, if◌then◌else◌, IfSome, n
 use Rattle.std.specs.List.{flat_map}
 use Rattle.std.proofs.lemmas.Bool.{and_from, cond-true, le-leb}
 use Rattle.std.proofs.lemmas.Option.{cond_some, slice_get_within}
-use Rattle.px_asm.proofs.DescribedLists.{IsFrom, all_there, before, flat_at, flat_from}
-use Rattle.px_relink.proofs.StandingPlaces.{place_at_once}
-use Rattle.px_asm.proofs.DescribedMembers.{methods_written}
-use Rattle.px_asm.proofs.DescribedView.{Put, cell_written, put_row, row_there, rows_at, view}
-use Rattle.px_asm.specs.Holds.{IsImplRow, overriding_pairs, pair_of}
-use Rattle.px_link.proofs.Places.{at_place_of, beside, place_below}
-use Rattle.px_meta.specs.Rows.{IsRow, cell, count_of, method_impls, methods, row_by, some_row}
+use Rattle.px_written.proofs.DescribedLists.{IsFrom, all_there, before, flat_at, flat_from}
+use Rattle.px_methods.proofs.RowPlaces.{at_place_of, beside, place_at_once, place_below}
+use Rattle.px_written.proofs.DescribedMembers.{methods_written}
+use Rattle.px_written.proofs.DescribedView.{Put, cell_written, put_row, row_there, rows_at, view}
+use Rattle.px_written.specs.Holds.{IsImplRow, overriding_pairs, pair_of}
+use Rattle.px_meta.specs.Rows.{IsRow, cell, count_of, is_in, method_impls, methods, row_by, some_row}
 use Rattle.px_methods.specs.Codes.{place_of}
 use Rattle.px_program.proofs.Types.{each_at}
 use Rattle.px_program.specs.declared.program.Slot.{Slot}
-use Rattle.px_reach.specs.Met.{is_in}
-use Rattle.px_relink.specs.Describes.{AreImpls, IsImpl, IsSaid, SaysSlot, method_row}
+use Rattle.px_described.specs.Describes.{AreImpls, IsImpl, IsSaid, SaysSlot, method_row}
 use Rattle.px_tables.specs.Metadata.{View}
 
 -- NUMBERS OF METHODS

@@ -1,13 +1,12 @@
 -- Where rows stand among others.
-use Rattle.std.proofs.Common.{◌≡◌, ◌⊎◌, inl, inr, ℕ, zero, suc, ◌+◌, ◌<◌, ◌≤◌, Bool, true, false, List, [], ◌∷◌, ◌++◌, length, Option, Some, refl, sym, ap, subst, ⊎_elim, arith, eqb-true, eq-eqb}
+use Rattle.std.proofs.Common.{◌≡◌, ◌⊎◌, inl, inr, ℕ, zero, suc, ◌+◌, ◌<◌, ◌≤◌, Bool, true, false, List, [], ◌∷◌, ◌++◌, length, get_or, Option, Some, refl, sym, ap, ◌∙◌, subst, ⊎_elim, arith, eqb-true, eq-eqb}
 use Rattle.std.specs.Prelude.{◌==◌, ◌&&◌, ◌||◌, not, filter, find, if◌then◌else◌, slice_get, slice_index_or}
-use Rattle.std.specs.List.{AllByRecursion, AllZip, flat_map, range_with_len, zip}
-use Rattle.std.proofs.lemmas.Bool.{and_from, cases_Bool, cond_both, or_cases, or_left, or_right}
-use Rattle.std.proofs.lemmas.Option.{same_Some, slice_get_within}
-use Rattle.px_meta.specs.Rows.{IsRow, fields, rows_in}
+use Rattle.std.specs.List.{AllByRecursion, AllPairs, AllZip, IsDistinct, flat_map, range_with_len, zip}
+use Rattle.std.proofs.lemmas.Bool.{and_from, cases_Bool, cases_lt, cond-false, cond-true, cond_both, or_cases, or_left, or_right}
+use Rattle.std.proofs.lemmas.Option.{get_or_from_slice_get, same_Some, slice_get_within}
+use Rattle.px_meta.specs.Rows.{IsRow, fields, is_in, rows_in}
 use Rattle.px_methods.specs.Codes.{place_of}
-use Rattle.px_program.proofs.Types.{each-append}
-use Rattle.px_reach.specs.Met.{is_in}
+use Rattle.px_program.proofs.Types.{each-append, each_at}
 use Rattle.px_tables.specs.Metadata.{View}
 use Rattle.px_types.specs.Numbers.{instance_fields, is_field_of, is_static_field, static_fields}
 use Rattle.px_types.proofs.Closed.{each-back, each-front}
@@ -56,7 +55,8 @@ kept_by p x row xs true e passes later =
 kept_by p x row xs false e passes later =
     cond_both (p x) (x ∷ filter p xs) (filter p xs) (λ l. is_in l row ≡ true) (λ kept. or_right (x == row) (is_in (filter p xs) row) (later refl)) (λ dropped. later refl)
 
-in_filter : (p : ℕ → Bool) (xs : List ℕ) (row : ℕ) → p row ≡ true → is_in xs row ≡ true → is_in (filter p xs) row ≡ true
+-- what is there and passes is kept
+pub in_filter : (p : ℕ → Bool) (xs : List ℕ) (row : ℕ) → p row ≡ true → is_in xs row ≡ true → is_in (filter p xs) row ≡ true
 in_filter p [] row passes there = absurd (cc)
 in_filter p (x ∷ xs) row passes there = kept_by p x row xs (x == row) refl passes (λ differs. in_filter p xs row passes (later_one (x == row) (is_in xs row) there differs))
 
@@ -145,3 +145,55 @@ pub at_index : (lists : List (List ℕ)) (k row : ℕ) → is_in (slice_index_or
 at_index [] k row there = absurd (cc)
 at_index (list ∷ lists) zero row there = refl
 at_index (list ∷ lists) (suc k) row there = at_index lists k row there
+
+-- PLACES THAT STAND ONCE, AND IN ORDER
+
+-- what has a place within stands there
+pub placed_at : (xs : List ℕ) (x : ℕ) → place_of xs x < length xs → slice_get xs (place_of xs x) ≡ Some x
+placed_at [] x within = absurd (omega arith)
+placed_at (y ∷ xs) x within =
+    cond_both (y == x) 0 (1 + place_of xs x) (λ k. k < length (y ∷ xs) → slice_get (y ∷ xs) k ≡ Some x)
+    (λ same few. ap (λ z. Some z) (eqb-true y x same))
+    (λ differs few. let more : suc (place_of xs x) ≡ 1 + place_of xs x = omega arith in subst (λ k. slice_get (y ∷ xs) k ≡ Some x) more (placed_at xs x (omega arith)))
+    within
+
+-- where each stands once, what stands at a place has that place
+pub place_at_once : (xs : List ℕ) (k x : ℕ) → IsDistinct (λ y z. y == z) xs → slice_get xs k ≡ Some x → place_of xs x ≡ k
+unfolding IsDistinct
+place_at_once [] k x once at = absurd (cc)
+place_at_once (y ∷ xs) zero x once at = let same : y ≡ x = cc in cond-true (y == x) 0 (1 + place_of xs x) (eq-eqb y x same)
+place_at_once (y ∷ xs) (suc k) x once at =
+    let differs : (y == x) ≡ false = each_at (λ z. (y == z) ≡ false) xs once.0 k x at in
+    cond-false (y == x) 0 (1 + place_of xs x) differs ∙ (let later = place_at_once xs k x once.1 at in omega arith)
+
+pub places_apart : (xs : List ℕ) (x y : ℕ) → is_in xs x ≡ true → is_in xs y ≡ true → place_of xs x ≡ place_of xs y → x ≡ y
+places_apart xs x y there other_there same =
+    same_Some x y (sym (at_place_of xs x there) ∙ ap (slice_get xs) same ∙ at_place_of xs y other_there)
+
+-- what goes before another comes before it in a list in order
+pub places_rise : (f : ℕ → ℕ) (xs : List ℕ) (x y : ℕ) → AllPairs (λ n later. f n < f later) xs → is_in xs x ≡ true → is_in xs y ≡ true → f x < f y → place_of xs x < place_of xs y
+places_rise f xs x y rising there other_there less =
+    ⊎_elim (λ before. before)
+    (λ behind.
+    let at_x = get_or_from_slice_get xs (place_of xs x) x 0 (at_place_of xs x there) in
+    let at_y = get_or_from_slice_get xs (place_of xs y) y 0 (at_place_of xs y other_there) in
+    ⊎_elim
+    (λ after.
+    let within = slice_get_within xs (place_of xs x) x (at_place_of xs x there) in
+    let turned : f (get_or xs (place_of xs y) 0) < f (get_or xs (place_of xs x) 0) = rising (place_of xs y) (place_of xs x) 0 after within in
+    absurd (let back : f y < f x = subst (λ z. f y < f z) at_x (subst (λ z. f z < f (get_or xs (place_of xs x) 0)) at_y turned) in omega arith))
+    (λ up_to. absurd (let level : place_of xs x ≡ place_of xs y = omega arith in let same = ap f (places_apart xs x y there other_there level) in omega arith))
+    (cases_lt (place_of xs y) (place_of xs x)))
+    (cases_lt (place_of xs x) (place_of xs y))
+
+-- LISTS SIDE BY SIDE
+
+pub zip_at : {X Y : Type 0} (R : X → Y → Type 0) (xs : List X) (ys : List Y) → length ys ≡ length xs → ((k : ℕ) (x : X) (y : Y) → slice_get xs k ≡ Some x → slice_get ys k ≡ Some y → R x y) → AllZip R xs ys
+zip_at R [] [] size at = tt
+zip_at R [] (y ∷ ys) size at = absurd (omega arith)
+zip_at R (x ∷ xs) [] size at = absurd (omega arith)
+zip_at R (x ∷ xs) (y ∷ ys) size at = (at 0 x y refl refl, zip_at R xs ys (omega arith) (λ k z w p q. at (suc k) z w p q))
+
+pub each_of_all : {X : Type 0} (P : X → Type 0) → ((x : X) → P x) → (xs : List X) → AllByRecursion P xs
+each_of_all P holds [] = tt
+each_of_all P holds (x ∷ xs) = (holds x, each_of_all P holds xs)

@@ -4,7 +4,7 @@ use Rattle.std.specs.List.{AllZip}
 use Rattle.px_encode.specs.Heaps.{Grows, HasBlob, HasString}
 use Rattle.px_program.specs.declared.program.Place.{Place}
 use Rattle.px_program.specs.declared.program.Program.{Program}
-use Rattle.px_relink.specs.Describes.{IsTypeOf}
+use Rattle.px_described.specs.Describes.{IsTypeOf}
 use Rattle.px_sig.specs.Grammar.{method_sig}
 use Rattle.px_sig.specs.declared.sig.Integer.TheVariants as integers
 use Rattle.px_sig.specs.declared.sig.MethodSig.{MethodSig}

@@ -2,8 +2,8 @@
 use Rattle.std.specs.Prelude.{◌≡◌, ℕ, List}
 use Rattle.px_image.specs.declared.content.Content.{Content}
 use Rattle.px_program.specs.declared.program.Program.{Program}
-use Rattle.px_asm.specs.Holds.{Holds}
-use Rattle.px_asm.specs.Store.{Store}
+use Rattle.px_written.specs.Holds.{Holds}
+use Rattle.px_written.specs.Store.{Store}
 
 pub record IsWritten (p : Program) (content : Content) (bodies : List ℕ) : Type 0 where
   pub store : Store

@@ -5,7 +5,7 @@ use Rattle.std.specs.List.{AllPairs}
 use Rattle.std.specs.Option.{unwrap_or}
 use Rattle.std.proofs.lemmas.Bool.{and_from, and_parts, and_right, cases_eq, cases_lt, cond-false, cond-true, false_from_ne_true, le-leb, le-ltb, leb-true, lt-ltb, ltb-true, ne_eqb}
 use Rattle.std.proofs.lemmas.Option.{get_or_from_slice_get, slice_get_within}
-use Rattle.px_asm.proofs.DescribedLists.{below, below_few, below_many, first_found}
+use Rattle.px_written.proofs.DescribedLists.{below, below_few, below_many, first_found}
 use Rattle.px_meta.specs.Members.{is_listed, list_end, list_start, owner_of}
 use Rattle.px_meta.specs.Rows.{count_of, fields, type_defs}
 use Rattle.px_tables.specs.Metadata.{View}

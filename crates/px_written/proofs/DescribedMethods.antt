@@ -2,16 +2,16 @@
 use Rattle.std.proofs.Common.{◌≡◌, ℕ, ◌+◌, ◌++◌, Some, sym, ap, ◌∙◌, subst}
 use Rattle.std.specs.Prelude.{codes, slice_get, slice_index}
 use Rattle.std.proofs.lemmas.Option.{same_Some}
-use Rattle.px_asm.proofs.DescribedBodies.{code_described}
-use Rattle.px_asm.proofs.DescribedMembers.{method_owned}
-use Rattle.px_asm.proofs.DescribedView.{Put, cell_written, image, rows_at, sig_written, store, text_read, view}
-use Rattle.px_asm.specs.Holds.{IsAddress, IsMethodDef}
-use Rattle.px_link.proofs.Places.{beside}
+use Rattle.px_written.proofs.DescribedBodies.{code_described}
+use Rattle.px_written.proofs.DescribedMembers.{method_owned}
+use Rattle.px_written.proofs.DescribedView.{Put, cell_written, image, rows_at, sig_written, store, text_read, view}
+use Rattle.px_written.specs.Holds.{IsAddress, IsMethodDef}
+use Rattle.px_methods.proofs.RowPlaces.{beside}
 use Rattle.px_meta.specs.Members.{flags_in}
 use Rattle.px_meta.specs.Rows.{cell, methods}
 use Rattle.px_program.specs.declared.program.Method.{Method}
 use Rattle.px_program.specs.declared.program.Slot.{Slot}
-use Rattle.px_relink.specs.Describes.{IsMethodRow, IsSlotRow, method_row}
+use Rattle.px_described.specs.Describes.{IsMethodRow, IsSlotRow, method_row}
 use Rattle.px_sig.specs.Grammar.{method_sig}
 use Rattle.px_tables.specs.Counts.{has_bit}
 use Rattle.px_tables.specs.declared.tables.Row.{Row}

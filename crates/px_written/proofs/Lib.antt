@@ -1,0 +1,13 @@
+pub mod Described
+pub mod DescribedBodies
+pub mod DescribedFaults
+pub mod DescribedFields
+pub mod DescribedImpls
+pub mod DescribedLibrary
+pub mod DescribedLists
+pub mod DescribedMembers
+pub mod DescribedMethods
+pub mod DescribedOwners
+pub mod DescribedTokens
+pub mod DescribedTypes
+pub mod DescribedView

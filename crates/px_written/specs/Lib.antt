@@ -1,0 +1,5 @@
+pub mod Holds
+pub mod Laws
+pub mod Store
+pub mod Tokens
+pub mod Written
