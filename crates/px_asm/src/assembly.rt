@@ -11,8 +11,8 @@ use std::alloc::{AllocError, Global};
 const SIZE_LIMIT: usize = 1 << 30;
 
 /// An assembly from which a program is linked again, by the name of its entry. The program was linked from an assembly, and none of its instructions is
-/// Outside. A program of 2^23 types, fields or methods, or whose assembly would have 2^24 rows in a table or 2^30 bytes, is answered as want of memory; a
-/// file of less than 16 MiB has room for all that it takes.
+/// Outside. A program of 2^23 types, fields or methods, or whose assembly would have 2^24 rows in a table or 2^30 bytes, is answered as want of memory.
+/// Each signature is written anew, and each array type whole: an assembly that shares long signatures grows.
 pub fn write_assembly(alloc: Global, program: &Program) -> Result<Vec<u8>, AllocError>
     requires linked { IsLinked program.now }
     requires runs { RunsWhole program.now }
