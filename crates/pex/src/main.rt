@@ -1,27 +1,12 @@
 //! Finds an argument tuple for each path of a method.
 #![tactic(auto)]
 
-mod answer;
-#[cfg(test)]
-mod assemblies;
-mod form;
-mod method;
-mod put;
-mod raw;
-mod refusals;
-#[cfg(test)]
-mod reports;
-#[cfg(test)]
-mod tests;
-mod top;
-mod words;
-
+use px_command::{Status, pex_one};
 use px_io::{FileShelf, StdSink, Word};
 use std::alloc::{AllocError, Global};
 use std::env;
 use std::io::ErrorKind;
 use std::process::ExitCode;
-use top::{Status, pex_one};
 
 // The words of the command line, without the program's name.
 // Where one of them isn't text there are none, so that the command line is one that is out of form.

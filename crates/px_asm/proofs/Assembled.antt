@@ -2,16 +2,16 @@
 use Rattle.std.proofs.Common.{◌≡◌, ℕ, List, Result, Ok, Err, sym, subst}
 use Rattle.std.specs.Prelude.{IfOk, Vec}
 use Rattle.std.specs.declared.alloc.Global.{Global}
-use Rattle.px_image.specs.Image.{IsImageOf}
-use Rattle.px_image.specs.Layout.{Fits, IsMetadataOf}
-use Rattle.px_image.specs.declared.content.Content.{Content}
+use Rattle.px_asm_image.specs.Image.{IsImageOf}
+use Rattle.px_asm_image.specs.Layout.{Fits, IsMetadataOf}
+use Rattle.px_asm_image.specs.declared.content.Content.{Content}
 use Rattle.px_program.specs.declared.program.Program.{Program}
-use Rattle.px_relink.proofs.LinksAgain.{described_is_linked}
-use Rattle.px_relink.proofs.Writing.{linked_is_writable}
-use Rattle.px_relink.specs.Linked.{IsAssemblyOf, IsLinked, RunsWhole, entry_name}
+use Rattle.px_asm_law_relink.proofs.LinksAgain.{described_is_linked}
+use Rattle.px_asm_law_relink.proofs.Writing.{linked_is_writable}
+use Rattle.px_asm_law_relink.specs.Linked.{IsAssemblyOf, IsLinked, RunsWhole, entry_name}
 use Rattle.px_tables.specs.Metadata.{metadata_of}
-use Rattle.px_written.proofs.Described.{described}
-use Rattle.px_written.specs.Written.{IsWritten}
+use Rattle.px_asm_law_written.proofs.Described.{described}
+use Rattle.px_asm_law_written.specs.Written.{IsWritten}
 
 pub assembled : (p : Program) (content : Content) (bodies metadata file : List ℕ) → IsLinked p → RunsWhole p → IsWritten p content bodies → Fits content
     → IsMetadataOf content metadata → IsImageOf metadata bodies file → IsAssemblyOf p (entry_name p) file

@@ -6,8 +6,8 @@ use Rattle.px_meta.specs.Faults.{IsFaultless}
 use Rattle.px_pe.specs.Image as pe
 use Rattle.px_program.specs.Formed.{IsWellFormed}
 use Rattle.px_program.specs.declared.program.Program.{Program}
-use Rattle.px_relink.proofs.WritingInstrs.{image_bytes}
-use Rattle.px_relink.specs.Linked.{IsLinked}
+use Rattle.px_asm_law_relink.proofs.WritingInstrs.{image_bytes}
+use Rattle.px_asm_law_relink.specs.Linked.{IsLinked}
 use Rattle.px_tables.specs.Metadata.{IsSound, View, metadata_of}
 use Rattle.px_asm.specs.Linking.{metadata_in}
 

@@ -6,7 +6,7 @@ use Rattle.std.proofs.lemmas.Bool.{and_parts}
 use Rattle.px_program.specs.declared.instr.Instr.{Instr}
 use Rattle.px_program.specs.declared.program.Method.{Method}
 use Rattle.px_program.specs.declared.program.Program.{Program}
-use Rattle.px_relink.specs.Linked.{RunsWhole, is_run}
+use Rattle.px_asm_law_relink.specs.Linked.{RunsWhole, is_run}
 use Rattle.px_asm.specs.Whole.{are_all_run, is_all_run}
 
 each_passes : {X : Type 0} (test : X → Bool) (P : X → Type 0) → ((x : X) → test x ≡ true → P x) → (xs : List X) → list_all test xs ≡ true → AllByRecursion P xs

@@ -2,19 +2,19 @@
 use Rattle.std.proofs.Common.{◌≡◌, ◌≢◌, ℕ, zero, suc, ◌<◌, List, [], ◌∷◌, ◌++◌, length, get_or, refl, sym, ap, ◌∙◌, subst, arith, length-append}
 use Rattle.std.specs.List.{AllZip}
 use Rattle.std.proofs.lemmas.List.{append-nil}
-use Rattle.px_encode.specs.Heaps.{Grows}
+use Rattle.px_asm_heaps.specs.Heaps.{Grows}
 use Rattle.px_program.specs.declared.program.Program.{Program}
 use Rattle.px_tables.specs.declared.tables.Row.{Row}
-use Rattle.px_asm.proofs.StoreStays.{grows_same}
-use Rattle.px_written.specs.Holds.{AreTypeDefs, Holds, IsFieldDef, IsImplRow, IsLocals, IsMethodDef, IsSpecRow, IsTypeRef, all_places, all_referred, overriding_pairs, table_in}
+use Rattle.px_asm_store.proofs.StoreStays.{grows_same}
+use Rattle.px_asm_law_written.specs.Holds.{AreTypeDefs, Holds, IsFieldDef, IsImplRow, IsLocals, IsMethodDef, IsSpecRow, IsTypeRef, all_places, all_referred, overriding_pairs, table_in}
 use Rattle.px_asm.specs.Made.{AreListed, AreMade}
-use Rattle.px_written.specs.Store.{AreReferences, Store, StoreGrows}
-use Rattle.px_asm.specs.Tables.{AreMethodRows, HasAddress, HeapsGrow, IsPut}
-use Rattle.px_written.specs.Tokens.{fields_of}
+use Rattle.px_asm_law_written.specs.Store.{AreReferences, Store, StoreGrows}
+use Rattle.px_asm_rows.specs.Tables.{AreMethodRows, HasAddress, HeapsGrow, IsPut}
+use Rattle.px_asm_law_written.specs.Tokens.{fields_of}
 use Rattle.px_asm.specs.declared.tables.Made.{Made}
-use Rattle.px_written.specs.Written.{IsWritten}
-use Rattle.px_image.specs.declared.content.Content.{Content}
-use Rattle.px_asm.proofs.TableStays.{heaps_grow_twice, table_stays_address, table_stays_field, table_stays_locals, table_stays_module, table_stays_references, table_stays_spec, table_stays_type_def, table_stays_type_ref, zip_weaker}
+use Rattle.px_asm_law_written.specs.Written.{IsWritten}
+use Rattle.px_asm_image.specs.declared.content.Content.{Content}
+use Rattle.px_asm_rows.proofs.TableStays.{heaps_grow_twice, table_stays_address, table_stays_field, table_stays_locals, table_stays_module, table_stays_references, table_stays_spec, table_stays_type_def, table_stays_type_ref, zip_weaker}
 
 -- PUTTING
 

@@ -1,9 +1,3 @@
-pub mod Constructors
-pub mod Elements
-pub mod Example
-pub mod Kept
 pub mod Linking
 pub mod Made
-pub mod Rows
-pub mod Tables
 pub mod Whole

@@ -3,10 +3,10 @@ use Rattle.std.specs.Prelude.{◌≡◌, ℕ, List, []}
 use Rattle.std.specs.List.{AllZip}
 use Rattle.px_program.specs.declared.program.Program.{Program}
 use Rattle.px_tables.specs.declared.tables.Row.{Row}
-use Rattle.px_written.specs.Holds.{AreTypeDefs, IsFieldDef, IsImplRow, IsLocals, IsSpecRow, IsTypeRef, all_places, all_referred, overriding_pairs, table_in}
-use Rattle.px_written.specs.Store.{Store}
-use Rattle.px_asm.specs.Tables.{AreMethodRows}
-use Rattle.px_written.specs.Tokens.{fields_of}
+use Rattle.px_asm_law_written.specs.Holds.{AreTypeDefs, IsFieldDef, IsImplRow, IsLocals, IsSpecRow, IsTypeRef, all_places, all_referred, overriding_pairs, table_in}
+use Rattle.px_asm_law_written.specs.Store.{Store}
+use Rattle.px_asm_rows.specs.Tables.{AreMethodRows}
+use Rattle.px_asm_law_written.specs.Tokens.{fields_of}
 use Rattle.px_asm.specs.declared.tables.Made.{Made}
 
 -- the rows are those of the program, by the addresses of its bodies

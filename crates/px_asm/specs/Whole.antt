@@ -3,7 +3,7 @@ use Rattle.std.specs.Prelude.{Bool, List}
 use Rattle.std.specs.List.{list_all}
 use Rattle.px_program.specs.declared.instr.Instr.{Instr}
 use Rattle.px_program.specs.declared.program.Method.{Method}
-use Rattle.px_relink.specs.Linked.{is_run}
+use Rattle.px_asm_law_relink.specs.Linked.{is_run}
 
 -- none of the instructions is Outside
 abbrev pub is_all_run : List Instr → Bool

@@ -1,9 +1,9 @@
 // Assemblies.
 ghost use Rattle.std.specs.Prelude.{IfOk};
-ghost use Rattle.px_relink.specs.Linked.{IsAssemblyOf, IsLinked, RunsWhole, entry_name};
+ghost use Rattle.px_asm_law_relink.specs.Linked.{IsAssemblyOf, IsLinked, RunsWhole, entry_name};
 
 use crate::tables::tables_of;
-use px_image::{write_image, write_metadata};
+use px_asm_image::{write_image, write_metadata};
 use px_program::Program;
 use std::alloc::{AllocError, Global};
 

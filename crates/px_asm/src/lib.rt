@@ -2,19 +2,8 @@
 #![tactic(auto)]
 
 mod assembly;
-mod bodies;
-mod fields;
 mod methods;
-mod overriding;
-mod places;
-mod rows;
-mod spelled;
-mod store;
 mod tables;
-#[cfg(test)]
-mod tests;
-mod tokens;
-mod types;
 mod whole;
 
 pub use assembly::write_assembly;

@@ -1,18 +1,16 @@
 // The rows of MethodDef and of StandAloneSig, and the bodies: Partition II, 22.26 and 22.36.
 ghost use Rattle.std.specs.Prelude.{◌≡◌, ◌<◌, ◌++◌, ◌%◌, ◌^◌, Some, IfOk, OnOk, codes, length, slice_get};
 ghost use Rattle.std.specs.List.{AllByRecursion, AllZip};
-ghost use Rattle.px_encode.specs.Heaps.{Grows};
+ghost use Rattle.px_asm_heaps.specs.Heaps.{Grows};
 ghost use Rattle.px_program.specs.declared.program.TypeInfo.{TypeInfo};
-ghost use Rattle.px_described.specs.Writable.{HasOwner, IsText};
+ghost use Rattle.px_asm_described.specs.Writable.{HasOwner, IsText};
 ghost use Rattle.px_tables.specs.Counts.{has_bit};
-ghost use Rattle.px_written.specs.Holds.{IsLocals};
-ghost use Rattle.px_written.specs.Store.{AreReferences, StoreGrows};
-ghost use Rattle.px_asm.specs.Tables.{AreMethodRows, HasAddress, IsMethodRow, bits_where};
+ghost use Rattle.px_asm_law_written.specs.Holds.{IsLocals};
+ghost use Rattle.px_asm_law_written.specs.Store.{AreReferences, StoreGrows};
+ghost use Rattle.px_asm_rows.specs.Tables.{AreMethodRows, HasAddress, IsMethodRow, bits_where};
 
-use crate::bodies::push_body;
-use crate::places::{sig_of, types_of};
-use crate::rows::Rows;
-use crate::store::Store;
+use px_asm_store::{Rows, Store, sig_of, types_of};
+use px_asm_tokens::push_body;
 use px_program::{Method, Program};
 use px_tables::Row;
 use std::alloc::{AllocError, Global};

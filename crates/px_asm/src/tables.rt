@@ -1,20 +1,16 @@
 // The tables, heaps and bodies of a written program: Partition II, 22.
 ghost use Rattle.std.specs.Prelude.{◌≡◌, ◌≤◌, ◌<◌, IfOk, OnOk, length};
 ghost use Rattle.std.specs.List.{AllByRecursion};
-ghost use Rattle.px_described.specs.Writable.{IsText, IsWritable};
+ghost use Rattle.px_asm_described.specs.Writable.{IsText, IsWritable};
 ghost use Rattle.px_asm.specs.Made.{AreListed, AreMade};
-ghost use Rattle.px_written.specs.Store.{StoreGrows};
-ghost use Rattle.px_asm.specs.Tables.{IsPut};
-ghost use Rattle.px_written.specs.Written.{IsWritten};
+ghost use Rattle.px_asm_law_written.specs.Store.{StoreGrows};
+ghost use Rattle.px_asm_rows.specs.Tables.{IsPut};
+ghost use Rattle.px_asm_law_written.specs.Written.{IsWritten};
 
-use crate::fields::field_defs;
 use crate::methods::{addresses_of, locals_rows, method_rows};
-use crate::overriding::impl_rows;
-use crate::rows::Rows;
-use crate::spelled::spec_rows;
-use crate::store::Store;
-use crate::types::{type_defs, type_refs};
-use px_image::Content;
+use px_asm_image::Content;
+use px_asm_rows::{field_defs, impl_rows, spec_rows, type_defs, type_refs};
+use px_asm_store::{Rows, Store};
 use px_program::Program;
 use px_tables::Row;
 use sqlite_items::Items;

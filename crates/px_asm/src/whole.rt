@@ -1,6 +1,6 @@
 // Programs that run whole.
 ghost use Rattle.std.specs.Prelude.{◌≡◌, ◌↔◌, IsTrue};
-ghost use Rattle.px_relink.specs.Linked.{RunsWhole, is_run};
+ghost use Rattle.px_asm_law_relink.specs.Linked.{RunsWhole, is_run};
 ghost use Rattle.px_asm.specs.Whole.{are_all_run, is_all_run};
 
 use px_program::{Code, Instr, Method, Program};

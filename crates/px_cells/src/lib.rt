@@ -2,8 +2,6 @@
 #![tactic(auto)]
 
 mod plain;
-#[cfg(test)]
-mod tests;
 mod worded;
 
 pub use plain::{NoPool, Plain};

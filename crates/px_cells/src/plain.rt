@@ -7,14 +7,14 @@ use px_words::{Op, eval};
 use std::alloc::{AllocError, Global};
 
 /// A word alone, at most 64 bits wide.
-#[derive(Clone, Copy, Debug, PartialEq, Eq)]
+#[derive(Clone, Copy, PartialEq, Eq)]
 pub struct Plain {
     /// The word's pattern.
     pub word: u64,
 }
 
 /// The pool of plain words, in which nothing stands.
-#[derive(Clone, Copy, Debug, PartialEq, Eq)]
+#[derive(Clone, Copy, PartialEq, Eq)]
 pub struct NoPool;
 
 impl Worded for Plain {

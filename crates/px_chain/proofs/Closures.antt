@@ -10,7 +10,7 @@ use Rattle.std.proofs.lemmas.List.Elements.{All-contains, All-from_recursion}
 use Rattle.px_chain.specs.declared.propagation.Open.{Open}
 use Rattle.px_chain.specs.declared.propagation.Open.TheVariants as opens
 use Rattle.px_chain.specs.Clause.{complement, has, is_negated}
-use Rattle.px_chain.specs.Closure.{Has, HasFalse, IsClosedUnder, IsClosure, IsSound, Keeps, Tells, unmarked}
+use Rattle.px_chain.specs.Closure.{Has, HasFalse, IsClosedUnder, IsClosure, IsSound, KeepsMarks, CountsOpen, unmarked}
 use Rattle.px_chain.specs.Propagation.{Closed, Given, Follows, IsConflict, Both, Empty}
 use Rattle.px_chain.proofs.Members.{has-append, has_from_all}
 
@@ -82,23 +82,23 @@ module _ (marks : List Bool) (clause : List ℕ) (i : ℕ) (lt : i < length clau
   here_in_all = subst (λ c. has c (get_or clause i 0) ≡ true) (take-append-drop i clause)
       (has-append (take i clause) (drop i clause) (get_or clause i 0) ∙ or_right (has (take i clause) (get_or clause i 0)) (has (drop i clause) (get_or clause i 0)) (first_in clause i lt))
 
-  pub Tells-false : (found : Open) → HasFalse marks (get_or clause i 0) → Tells marks (take i clause) found → Tells marks (take (i + 1) clause) found
-  Tells-false opens.Nothing is tells = λ m h. ⊎_elim (tells m) (λ e. subst (HasFalse marks) e is) (at_most m h)
-  Tells-false (opens.Single l) is tells =
+  pub CountsOpen-false : (found : Open) → HasFalse marks (get_or clause i 0) → CountsOpen marks (take i clause) found → CountsOpen marks (take (i + 1) clause) found
+  CountsOpen-false opens.Nothing is tells = λ m h. ⊎_elim (tells m) (λ e. subst (HasFalse marks) e is) (at_most m h)
+  CountsOpen-false (opens.Single l) is tells =
       (before_in l tells.0, tells.1, λ m h ne. ⊎_elim (λ before. tells.2 m before ne) (λ e. subst (HasFalse marks) e is) (at_most m h))
-  Tells-false opens.Several is tells = (tells.0, tells.1, before_in tells.0 tells.2, before_in tells.1 tells.3, tells.4, tells.5, tells.6)
+  CountsOpen-false opens.Several is tells = (tells.0, tells.1, before_in tells.0 tells.2, before_in tells.1 tells.3, tells.4, tells.5, tells.6)
 
-  pub Tells-first : (HasFalse marks (get_or clause i 0) → ⊥) → Tells marks (take i clause) opens.Nothing → Tells marks (take (i + 1) clause) (opens.Single (get_or clause i 0))
-  Tells-first is tells = (here_in, is, λ m h ne. ⊎_elim (tells m) (λ e. absurd (ne (sym e))) (at_most m h))
+  pub CountsOpen-first : (HasFalse marks (get_or clause i 0) → ⊥) → CountsOpen marks (take i clause) opens.Nothing → CountsOpen marks (take (i + 1) clause) (opens.Single (get_or clause i 0))
+  CountsOpen-first is tells = (here_in, is, λ m h ne. ⊎_elim (tells m) (λ e. absurd (ne (sym e))) (at_most m h))
 
-  pub Tells-again : (l : ℕ) → l ≡ get_or clause i 0 → Tells marks (take i clause) (opens.Single l) → Tells marks (take (i + 1) clause) (opens.Single l)
-  Tells-again l e tells = (before_in l tells.0, tells.1, λ m h ne. ⊎_elim (λ before. tells.2 m before ne) (λ f. absurd (ne (sym f ∙ sym e))) (at_most m h))
+  pub CountsOpen-again : (l : ℕ) → l ≡ get_or clause i 0 → CountsOpen marks (take i clause) (opens.Single l) → CountsOpen marks (take (i + 1) clause) (opens.Single l)
+  CountsOpen-again l e tells = (before_in l tells.0, tells.1, λ m h ne. ⊎_elim (λ before. tells.2 m before ne) (λ f. absurd (ne (sym f ∙ sym e))) (at_most m h))
 
-  pub Tells-second : (l : ℕ) → l ≢ get_or clause i 0 → (HasFalse marks (get_or clause i 0) → ⊥) → Tells marks (take i clause) (opens.Single l) → Tells marks clause opens.Several
-  Tells-second l ne is tells = (l, get_or clause i 0, all_in l tells.0, here_in_all, ne, tells.1, is)
+  pub CountsOpen-second : (l : ℕ) → l ≢ get_or clause i 0 → (HasFalse marks (get_or clause i 0) → ⊥) → CountsOpen marks (take i clause) (opens.Single l) → CountsOpen marks clause opens.Several
+  CountsOpen-second l ne is tells = (l, get_or clause i 0, all_in l tells.0, here_in_all, ne, tells.1, is)
 
-  pub Tells-several : Tells marks (take i clause) opens.Several → Tells marks clause opens.Several
-  Tells-several tells = (tells.0, tells.1, all_in tells.0 tells.2, all_in tells.1 tells.3, tells.4, tells.5, tells.6)
+  pub CountsOpen-several : CountsOpen marks (take i clause) opens.Several → CountsOpen marks clause opens.Several
+  CountsOpen-several tells = (tells.0, tells.1, all_in tells.0 tells.2, all_in tells.1 tells.3, tells.4, tells.5, tells.6)
 
 -- `has` and `Contains` say the same
 pub has-Contains : (xs : List ℕ) (k : ℕ) → Contains xs k → has xs k ≡ true
@@ -113,8 +113,8 @@ Contains-has (x ∷ xs) k there =
 
 -- literals that are marked beside those that were
 module _ (old new : List Bool) (literals : List ℕ) (is : (k : ℕ) → get_or new k false ≡ (get_or old k false || has literals k)) where
-  pub Keeps-marked : Keeps old new
-  Keeps-marked k h = is k ∙ or_left (get_or old k false) (has literals k) h
+  pub KeepsMarks-marked : KeepsMarks old new
+  KeepsMarks-marked k h = is k ∙ or_left (get_or old k false) (has literals k) h
 
   pub Has-marked : (k : ℕ) → has literals k ≡ true → Has new k
   Has-marked k h = is k ∙ or_right (get_or old k false) (has literals k) h
@@ -124,10 +124,10 @@ module _ (old new : List Bool) (literals : List ℕ) (is : (k : ℕ) → get_or 
 
 -- what a clause makes follow
 module _ (clauses : List (List ℕ)) (given : List ℕ) (marks : List Bool) (clause : List ℕ) (there : Contains clauses clause) (sound : IsSound clauses given marks) where
-  pub follow-nothing : Tells marks clause opens.Nothing → (k : ℕ) → has clause k ≡ true → Closed clauses given k
+  pub follow-nothing : CountsOpen marks clause opens.Nothing → (k : ℕ) → has clause k ≡ true → Closed clauses given k
   follow-nothing tells k h = Follows clause k there (Contains-has clause k h) (λ m within ne. sound (complement m) (tells m (has-Contains clause m within)))
 
-  pub follow-single : (l : ℕ) → Tells marks clause (opens.Single l) → (k : ℕ) → has (l ∷ []) k ≡ true → Closed clauses given k
+  pub follow-single : (l : ℕ) → CountsOpen marks clause (opens.Single l) → (k : ℕ) → has (l ∷ []) k ≡ true → Closed clauses given k
   follow-single l tells k h =
       let e : l ≡ k = ⊎_elim (λ same. eqb-true l k same) (λ none. absurd (true≢false (sym none))) (or_cases (eqb l k) false h) in
       subst (Closed clauses given) e (Follows clause l there (Contains-has clause l tells.0) (λ m within ne. sound (complement m) (tells.2 m (has-Contains clause m within) ne)))
@@ -136,11 +136,11 @@ module _ (clauses : List (List ℕ)) (given : List ℕ) (marks : List Bool) (cla
 pub closed-nothing : (old new : List Bool) (clause : List ℕ) → ((k : ℕ) → get_or new k false ≡ (get_or old k false || has clause k)) → IsClosedUnder new clause
 closed-nothing old new clause is l h others = Has-marked old new clause is l h
 
-pub closed-single : (marks : List Bool) (clause : List ℕ) (l : ℕ) → Tells marks clause (opens.Single l) → Has marks l → IsClosedUnder marks clause
+pub closed-single : (marks : List Bool) (clause : List ℕ) (l : ℕ) → CountsOpen marks clause (opens.Single l) → Has marks l → IsClosedUnder marks clause
 closed-single marks clause l tells here k h others =
     ⊎_elim (λ e. subst (Has marks) e here) (λ ne. absurd (tells.1 (others l tells.0 ne))) (cases_eq l k)
 
-pub closed-several : (marks : List Bool) (clause : List ℕ) → Tells marks clause opens.Several → IsClosedUnder marks clause
+pub closed-several : (marks : List Bool) (clause : List ℕ) → CountsOpen marks clause opens.Several → IsClosedUnder marks clause
 closed-several marks clause tells k h others =
     ⊎_elim
     (λ e. absurd (tells.6 (others tells.1 tells.3 (λ f. tells.4 (e ∙ sym f)))))
@@ -196,12 +196,12 @@ from-conflict clauses given marks is (Empty empty) = inr empty
 
 -- how far a round has gone
 pub record HasGone (clauses : List (List ℕ)) (old new : List Bool) (number : ℕ) (changed : Bool) : Type 0 where
-  pub keeps : Keeps old new
+  pub keeps : KeepsMarks old new
   pub sound : (given : List ℕ) → IsSound clauses given old → IsSound clauses given new
   pub same : OnFalse changed (new ≡ old)
   pub closed : OnFalse changed ((k : ℕ) (clause : List ℕ) → k < number → slice_get clauses k ≡ Some clause → IsClosedUnder new clause)
   pub more : OnTrue changed (unmarked new < unmarked old)
 
-pub all_kept : (old new : List Bool) (literals : List ℕ) → Keeps old new → AllByRecursion (Has old) literals → AllByRecursion (Has new) literals
+pub all_kept : (old new : List Bool) (literals : List ℕ) → KeepsMarks old new → AllByRecursion (Has old) literals → AllByRecursion (Has new) literals
 all_kept old new [] keeps all = tt
 all_kept old new (l ∷ literals) keeps all = (keeps l all.0, all_kept old new literals keeps all.1)

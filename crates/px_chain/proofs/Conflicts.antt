@@ -6,7 +6,7 @@ use Rattle.std.proofs.lemmas.Bool.{true≢false, false≢true, cases_eq, or_case
 use Rattle.px_chain.specs.declared.chain.LogEntry.{LogEntry}
 use Rattle.px_chain.specs.declared.propagation.Open.TheVariants as opens
 use Rattle.px_chain.specs.Clause.{complement, has}
-use Rattle.px_chain.specs.Closure.{Adds, Has, HasFalse, IsClosure, IsSound, MeetsConflict, Tells}
+use Rattle.px_chain.specs.Closure.{Adds, Has, HasFalse, IsClosure, IsSound, MeetsConflict, CountsOpen}
 use Rattle.px_chain.specs.Propagation.{Closed, Given, Follows, HasOneOpen, IsFalse, IsGenuine, IsUnassigned}
 use Rattle.px_chain.specs.Resolution.{Derives}
 use Rattle.px_chain.proofs.Closures.{Contains-has, IsSound-marked, has-Contains}
@@ -50,7 +50,7 @@ Adds-decisions clauses n decisions = record {
 
 -- whether one literal is open
 module _ (clauses : List (List ℕ)) (given : List ℕ) (marks : List Bool) (clause : List ℕ) (is : IsClosure clauses given marks) where
-  pub one_open-single : (l : ℕ) → Tells marks clause (opens.Single l) → (Has marks l → ⊥) → HasOneOpen clauses given clause
+  pub one_open-single : (l : ℕ) → CountsOpen marks clause (opens.Single l) → (Has marks l → ⊥) → HasOneOpen clauses given clause
   one_open-single l tells not_marked = record {
     literal = l;
     within = Contains-has clause l tells.0;
@@ -58,17 +58,17 @@ module _ (clauses : List (List ℕ)) (given : List ℕ) (marks : List Bool) (cla
     others = λ m there ne. (is (complement m)).0 (tells.2 m (has-Contains clause m there) ne);
   }
 
-  pub one_open-marked : (l : ℕ) → Tells marks clause (opens.Single l) → Has marks l → HasOneOpen clauses given clause → ⊥
+  pub one_open-marked : (l : ℕ) → CountsOpen marks clause (opens.Single l) → Has marks l → HasOneOpen clauses given clause → ⊥
   one_open-marked l tells marked one =
       ⊎_elim
       (λ e. one.is_open.literal (subst (Closed clauses given) e ((is l).0 marked)))
       (λ ne. tells.1 ((is (complement l)).1 (one.others l (Contains-has clause l tells.0) ne)))
       (cases_eq l one.literal)
 
-  pub one_open-nothing : Tells marks clause opens.Nothing → HasOneOpen clauses given clause → ⊥
+  pub one_open-nothing : CountsOpen marks clause opens.Nothing → HasOneOpen clauses given clause → ⊥
   one_open-nothing tells one = one.is_open.complement_too ((is (complement one.literal)).0 (tells one.literal (has-Contains clause one.literal one.within)))
 
-  pub one_open-several : Tells marks clause opens.Several → HasOneOpen clauses given clause → ⊥
+  pub one_open-several : CountsOpen marks clause opens.Several → HasOneOpen clauses given clause → ⊥
   one_open-several tells one =
       ⊎_elim
       (λ e. tells.6 ((is (complement tells.1)).1 (one.others tells.1 (Contains-has clause tells.1 tells.3) (λ f. tells.4 (e ∙ sym f)))))

@@ -17,7 +17,7 @@ use Rattle.px_chain.specs.declared.fault.Fault.{Fault}
 use Rattle.px_chain.specs.Clause.{clause_of}
 use Rattle.px_chain.specs.Fault.{IsBlamed, blamed}
 use Rattle.px_chain.specs.Verdict.{Blames, last_claim}
-use Rattle.px_chain.specs.Resolution.{Derives, Refutes, Fault as StepFault, fault_in, fault_of, fault_or, first_fault, last_fault}
+use Rattle.px_chain.specs.Resolution.{Derives, Refutes, StepFault, fault_in, fault_of, fault_or, first_fault, last_fault}
 
 -- each chain resolves clauses and earlier claims to its claim
 abbrev pub AllDerive : List (List ℕ) → List Chain → Type 0

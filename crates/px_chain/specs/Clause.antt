@@ -49,16 +49,16 @@ abbrev pub IsFormula : Formula → Type 0
 IsFormula f = AllByRecursion (λ clause. Ascends clause × IsOver f.vars clause) f.clauses
 
 -- an assignment has a truth value for each variable
-abbrev pub Assignment : Type 0
-Assignment = ℕ → Bool
+abbrev pub Valuation : Type 0
+Valuation = ℕ → Bool
 
-abbrev pub holds : Assignment → ℕ → Bool
+abbrev pub holds : Valuation → ℕ → Bool
 holds a l = if is_negated l then not (a (variable_of l)) else a (variable_of l)
 
 -- some literal of the clause holds
-abbrev pub meets : Assignment → List ℕ → Bool
+abbrev pub meets : Valuation → List ℕ → Bool
 meets a clause = list_any (holds a) clause
 
 -- the assignment meets every clause
-abbrev pub MeetsAll : Assignment → List (List ℕ) → Type 0
+abbrev pub MeetsAll : Valuation → List (List ℕ) → Type 0
 MeetsAll a clauses = AllByRecursion (λ clause. meets a clause ≡ true) clauses

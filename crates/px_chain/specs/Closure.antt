@@ -28,8 +28,8 @@ abbrev pub IsClosedUnder : List Bool → List ℕ → Type 0
 IsClosedUnder marks clause = (l : ℕ) → has clause l ≡ true → ((m : ℕ) → has clause m ≡ true → m ≢ l → HasFalse marks m) → Has marks l
 
 -- the second set has what the first has
-abbrev pub Keeps : List Bool → List Bool → Type 0
-Keeps old new = (l : ℕ) → Has old l → Has new l
+abbrev pub KeepsMarks : List Bool → List Bool → Type 0
+KeepsMarks old new = (l : ℕ) → Has old l → Has new l
 
 -- the literals that are given are those in a set, all of which follow from them, and some others
 pub record Adds (clauses : List (List ℕ)) (given : List ℕ) (marks : List Bool) (literals : List ℕ) : Type 0 where
@@ -43,14 +43,14 @@ unmarked [] = 0
 unmarked (mark ∷ marks) = if mark then unmarked marks else suc (unmarked marks)
 
 -- which literals of a clause aren't false: none; one; or two and maybe more
-abbrev pub Tells : List Bool → List ℕ → Open → Type 0
-Tells marks clause opens.Nothing = (m : ℕ) → has clause m ≡ true → HasFalse marks m
-Tells marks clause (opens.Single l) = (has clause l ≡ true) × (HasFalse marks l → ⊥) × ((m : ℕ) → has clause m ≡ true → m ≢ l → HasFalse marks m)
-Tells marks clause opens.Several =
+abbrev pub CountsOpen : List Bool → List ℕ → Open → Type 0
+CountsOpen marks clause opens.Nothing = (m : ℕ) → has clause m ≡ true → HasFalse marks m
+CountsOpen marks clause (opens.Single l) = (has clause l ≡ true) × (HasFalse marks l → ⊥) × ((m : ℕ) → has clause m ≡ true → m ≢ l → HasFalse marks m)
+CountsOpen marks clause opens.Several =
     (l : ℕ) × (m : ℕ) × (has clause l ≡ true) × (has clause m ≡ true) × (l ≢ m) × (HasFalse marks l → ⊥) × (HasFalse marks m → ⊥)
 
 -- what holds of a genuine conflict before its last decision
-pub record IsQuiet (clauses : List (List ℕ)) (entry : LogEntry) : Type 0 where
+pub record IsBeforeConflict (clauses : List (List ℕ)) (entry : LogEntry) : Type 0 where
   pub quiet : IsConflict clauses entry.decisions → ⊥
   pub last_open : IsUnassigned clauses entry.decisions entry.last
   pub one_open : HasOneOpen clauses entry.decisions entry.chain.claim
@@ -65,5 +65,5 @@ pub record MeetsConflict (vars : ℕ) (clauses : List (List ℕ)) (entry : LogEn
   pub decisions_over : IsOver vars entry.decisions
   pub last_over : variable_of entry.last < vars
   pub claim_over : IsOver vars entry.chain.claim
-  pub before : IsQuiet clauses entry
+  pub before : IsBeforeConflict clauses entry
   pub after : IsClash clauses (entry.last ∷ entry.decisions) entry.chain.claim

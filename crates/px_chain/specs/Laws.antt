@@ -3,17 +3,17 @@ use Rattle.std.specs.Prelude.{◌≡◌, ◌≢◌, ◌<◌, ◌^◌, ℕ, List,
 use Rattle.std.specs.List.{AllByRecursion, AllPairs}
 use Rattle.px_chain.specs.declared.chain.Chain.{Chain}
 use Rattle.px_chain.specs.declared.chain.LogEntry.{LogEntry}
-use Rattle.px_chain.specs.Clause.{Assignment, Formula, MeetsAll, clause_of, meets, variable_of}
+use Rattle.px_chain.specs.Clause.{Valuation, Formula, MeetsAll, clause_of, meets, variable_of}
 use Rattle.px_chain.specs.Propagation.{IsGenuineLog}
 use Rattle.px_chain.specs.Resolution.{Refutes, derived}
 
 -- an assignment that meets the clauses meets what a chain resolves to over them
 abbrev pub ResolutionIsSound : Type 0
-ResolutionIsSound = (a : Assignment) (clauses : List (List ℕ)) (chain : Chain) (clause : List ℕ) → MeetsAll a clauses → derived clauses chain ≡ Ok clause → meets a clause ≡ true
+ResolutionIsSound = (a : Valuation) (clauses : List (List ℕ)) (chain : Chain) (clause : List ℕ) → MeetsAll a clauses → derived clauses chain ≡ Ok clause → meets a clause ≡ true
 
 -- no assignment meets clauses that chains refute
 abbrev pub RefutedIsUnmet : Type 0
-RefutedIsUnmet = (a : Assignment) (clauses : List (List ℕ)) (chains : List Chain) → Refutes clauses chains → MeetsAll a clauses → ⊥
+RefutedIsUnmet = (a : Valuation) (clauses : List (List ℕ)) (chains : List Chain) → Refutes clauses chains → MeetsAll a clauses → ⊥
 
 -- the clauses that a log learns, in order
 abbrev pub learnt_by : List LogEntry → List (List ℕ)

@@ -68,19 +68,19 @@ abbrev pub fault_of : List (List ℕ) → Chain → Option Why
 fault_of clauses chain = fault_in (derived clauses chain) (clause_of chain.claim)
 
 -- a fault with the number of its chain
-abbrev pub Fault : Type 0
-Fault = ℕ × Why
+abbrev pub StepFault : Type 0
+StepFault = ℕ × Why
 
-abbrev pub last_fault : ℕ → List ℕ → Option Fault
+abbrev pub last_fault : ℕ → List ℕ → Option StepFault
 last_fault step [] = None
 last_fault step (l ∷ claim) = Some (step, whys.NotEmpty)
 
-abbrev pub fault_or : ℕ → Option Why → Option Fault → Option Fault
+abbrev pub fault_or : ℕ → Option Why → Option StepFault → Option StepFault
 fault_or step None rest = rest
 fault_or step (Some why) rest = Some (step, why)
 
 -- the first fault of chains, of which the first has this number
-abbrev pub first_fault : ℕ → List (List ℕ) → List Chain → Option Fault
+abbrev pub first_fault : ℕ → List (List ℕ) → List Chain → Option StepFault
 first_fault step clauses [] = Some (step, whys.NotEmpty)
 first_fault step clauses (chain ∷ []) = fault_or step (fault_of clauses chain) (last_fault step chain.claim)
 first_fault step clauses (chain ∷ next ∷ chains) =

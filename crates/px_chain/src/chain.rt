@@ -29,7 +29,7 @@ pub struct LogEntry {
 pub type Log = Items<LogEntry>;
 
 /// What is wrong with a chain.
-#[derive(Debug, Drop)]
+#[derive(Drop)]
 pub enum Why {
     /// There is no clause of this number yet.
     NoClause(u64),
@@ -45,7 +45,7 @@ pub enum Why {
 }
 
 /// Why chains are no refutation: want of memory, or the first chain that fails.
-#[derive(Debug, Drop)]
+#[derive(Drop)]
 pub enum ChainFault {
     Memory,
     BadStep { step: u32, why: Why },
@@ -63,7 +63,7 @@ impl From<AllocError> for ChainFault {
 }
 
 /// Why a log isn't genuine: want of memory, or the first entry that is no genuine conflict.
-#[derive(Clone, Copy, Debug, PartialEq, Eq)]
+#[derive(Clone, Copy, PartialEq, Eq)]
 pub enum LogFault {
     Memory,
     BadEntry { entry: u32 },
@@ -81,5 +81,5 @@ impl From<AllocError> for LogFault {
 }
 
 /// The formula was refuted: no assignment meets all its clauses.
-#[derive(Clone, Copy, Debug, PartialEq, Eq)]
+#[derive(Clone, Copy, PartialEq, Eq)]
 pub struct Refuted;

@@ -1,6 +1,6 @@
 // The check of refutations.
 ghost use Rattle.std.specs.Prelude.{◌≡◌, ◌≢◌, ◌-◌, Some, ◌≤◌, ◌<◌, ◌^◌, [], ◌∷◌, ◌++◌, ℕ, List, Ok, length, true, slice_get, OnErr, OnOk, IfOk, IfErr};
-ghost use Rattle.px_chain.specs.Clause.{Assignment, MeetsAll, IsOver, clause_of};
+ghost use Rattle.px_chain.specs.Clause.{Valuation, MeetsAll, IsOver, clause_of};
 ghost use Rattle.px_chain.specs.Fault.{IsBlamed, IsFaultOf, blamed};
 ghost use Rattle.px_chain.specs.Resolution.{Derives, Refutes, derived, fault_of, step_with};
 ghost use Rattle.px_chain.specs.Verdict.{Blames, last_claim};
@@ -17,7 +17,7 @@ use std::alloc::Global;
 pub fn check(alloc: Global, cnf: &Cnf, chains: &Chains) -> Result<Refuted, ChainFault>
     requires { length chains.now < 2 ^ 32 }
     ensures refutes { OnOk result (Refutes cnf.now.clauses chains.now) }
-    ensures unmet { OnOk result ((a : Assignment) → MeetsAll a cnf.now.clauses → ⊥) }
+    ensures unmet { OnOk result ((a : Valuation) → MeetsAll a cnf.now.clauses → ⊥) }
     ensures bad_step { IfErr result (Blames cnf.now.clauses chains.now) }
 {
     let mut premises = Premises::new(alloc, cnf);
@@ -133,6 +133,3 @@ fn resolve(
         Err(Fault::Chain(Why::NoPivot(variable)))
     }
 }
-
-#[cfg(test)]
-mod tests;

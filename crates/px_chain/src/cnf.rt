@@ -131,6 +131,3 @@ pub fn is_over(vars: u32, literals: &[Lit]) -> bool
 {
     literals.iter().all(|l| *l / 2 < vars)
 }
-
-#[cfg(test)]
-mod tests;

@@ -21,6 +21,3 @@ pub fn learnt_clauses_differ()
 pub fn genuine_logs_are_short()
     ensures { GenuineLogsAreShort }
 {}
-
-#[cfg(test)]
-mod tests;

@@ -10,8 +10,6 @@ mod log_checker;
 mod premises;
 mod propagation;
 mod resolver;
-#[cfg(test)]
-mod rows;
 
 pub use chain::{Chain, ChainFault, Chains, Lit, Log, LogEntry, LogFault, Refuted, Why};
 pub use checker::check;

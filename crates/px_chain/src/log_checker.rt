@@ -2,7 +2,7 @@
 ghost use Rattle.std.specs.Prelude.{◌≡◌, ◌≤◌, ◌<◌, ◌*◌, ◌^◌, ◌↔◌, [], ◌∷◌, ◌++◌, ℕ, List, length, IsTrue, OnOk, IfOk, IfErr};
 ghost use Rattle.std.specs.List.{AllByRecursion};
 ghost use Rattle.px_chain.specs.Clause.{IsOver, clause_of, variable_of};
-ghost use Rattle.px_chain.specs.Closure.{Adds, Has, HasFalse, IsClash, IsClosure, IsQuiet, MeetsConflict};
+ghost use Rattle.px_chain.specs.Closure.{Adds, Has, HasFalse, IsClash, IsClosure, IsBeforeConflict, MeetsConflict};
 ghost use Rattle.px_chain.specs.Propagation.{HasOneOpen, IsGenuine, IsGenuineLog};
 ghost use Rattle.px_chain.specs.Verdict.{BlamesEntry};
 
@@ -78,7 +78,7 @@ fn clashes(premises: &Premises, marks: &mut [bool], entry: &LogEntry) -> bool
     requires size { length marks.old ≡ 2 * premises.now.vars }
     requires over { variable_of entry.now.last < premises.now.vars }
     requires closure { IsClosure premises.now.clauses entry.now.decisions marks.old }
-    ensures { IsTrue result ↔ (IsQuiet premises.now.clauses entry.now × IsClash premises.now.clauses (entry.now.last ∷ entry.now.decisions) entry.now.chain.claim) }
+    ensures { IsTrue result ↔ (IsBeforeConflict premises.now.clauses entry.now × IsClash premises.now.clauses (entry.now.last ∷ entry.now.decisions) entry.now.chain.claim) }
 {
     if !is_quiet(premises, marks, entry) {
         return false;
@@ -124,7 +124,7 @@ fn close(premises: &Premises, marks: &mut [bool], literals: &[Lit])
 // What is to hold before the last decision.
 fn is_quiet(premises: &Premises, marks: &[bool], entry: &LogEntry) -> bool
     requires { length marks.now ≡ 2 * premises.now.vars }
-    ensures { IsClosure premises.now.clauses entry.now.decisions marks.now → IsTrue result ↔ IsQuiet premises.now.clauses entry.now }
+    ensures { IsClosure premises.now.clauses entry.now.decisions marks.now → IsTrue result ↔ IsBeforeConflict premises.now.clauses entry.now }
 {
     if is_conflict(premises, marks) {
         return false;
@@ -167,6 +167,3 @@ fn are_false(marks: &[bool], clause: &[Lit]) -> bool
 {
     clause.iter().all(|l| is_marked(marks, complement(*l)))
 }
-
-#[cfg(test)]
-mod tests;

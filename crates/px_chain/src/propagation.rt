@@ -3,7 +3,7 @@ ghost use Rattle.std.specs.Prelude.{◌≡◌, ◌≢◌, ◌↔◌, ◌≤◌, 
 ghost use Rattle.std.specs.Bool.{OnFalse, OnTrue};
 ghost use Rattle.std.specs.List.{AllByRecursion};
 ghost use Rattle.px_chain.specs.Clause.{IsOver, complement, has};
-ghost use Rattle.px_chain.specs.Closure.{Has, HasFalse, IsClosedUnder, IsClosure, IsSound, Keeps, Tells, unmarked};
+ghost use Rattle.px_chain.specs.Closure.{Has, HasFalse, IsClosedUnder, IsClosure, IsSound, KeepsMarks, CountsOpen, unmarked};
 ghost use Rattle.px_chain.specs.Propagation.{IsConflict};
 
 use crate::chain::Lit;
@@ -52,7 +52,7 @@ pub fn mark_each(marks: &mut [bool], literals: &[Lit]) -> bool
 
 /// Which literals of a clause aren't false.
 pub fn open_in(marks: &[bool], clause: &[Lit]) -> Open
-    ensures { Tells marks.now clause.now result }
+    ensures { CountsOpen marks.now clause.now result }
 {
     let mut found = Open::Nothing;
     for l in clause {
@@ -75,7 +75,7 @@ pub fn open_in(marks: &[bool], clause: &[Lit]) -> Open
 // Marks what follows from one clause, and answers whether it was marked before.
 fn visit(marks: &mut [bool], clause: &[Lit]) -> bool
     requires { IsOver (length marks.old / 2) clause.now }
-    ensures keeps { Keeps marks.old marks.new }
+    ensures keeps { KeepsMarks marks.old marks.new }
     ensures sound { (clauses : List (List ℕ)) (given : List ℕ) → Contains clauses clause.now → IsSound clauses given marks.old → IsSound clauses given marks.new }
     ensures closed { OnFalse result (IsClosedUnder marks.new clause.now) }
     ensures same { OnFalse result (marks.new ≡ marks.old) }
@@ -91,7 +91,7 @@ fn visit(marks: &mut [bool], clause: &[Lit]) -> bool
 // Marks what follows from each clause in turn, and answers whether anything changed.
 fn round(premises: &Premises, marks: &mut [bool]) -> bool
     requires { length marks.old ≡ 2 * premises.now.vars }
-    ensures keeps { Keeps marks.old marks.new }
+    ensures keeps { KeepsMarks marks.old marks.new }
     ensures sound { (given : List ℕ) → IsSound premises.now.clauses given marks.old → IsSound premises.now.clauses given marks.new }
     ensures closed { OnFalse result (AllByRecursion (IsClosedUnder marks.new) premises.now.clauses) }
     ensures more { OnTrue result (unmarked marks.new < unmarked marks.old) }

@@ -2,22 +2,23 @@
 use Rattle.std.proofs.Common.{◌≡◌, ◌≢◌, ℕ, suc, zero, ◌+◌, ◌*◌, ◌<◌, ◌≤◌, List, [], ◌∷◌, length, Option, Some, None, Result, Ok, Err, Bool, true, false, refl, sym, ap, ◌∙◌, subst, arith}
 use Rattle.std.specs.Prelude.{nat_lt, nat_le, slice_index, not, ◌==◌, if◌then◌else◌}
 use Rattle.std.proofs.lemmas.Bool.{lt-ltb, le-ltb}
-use Rattle.px_code.specs.Reading.{Fault, ◌>>=◌}
+use Rattle.px_code.specs.Reading.{PlacedFault}
+use Rattle.px_reading.specs.Reading.{◌>>=◌}
 use Rattle.px_code.specs.Body.{behind, instr_at, instr_by, instr_of, instrs_from, number_at, switch_at, Follow, Position}
 use Rattle.px_code.specs.declared.body.Operand.{Operand}
 use Rattle.px_code.specs.declared.body.Operand.TheVariants.{Number, Target, Switch}
 use Rattle.px_code.specs.declared.body.RawInstr.{RawInstr}
 
-pub bind_ok : {A B : Type 0} (r : Result A Fault) (f : A → Result B Fault) (y : B) → (r >>= f) ≡ Ok y → (x : A) × (r ≡ Ok x) × (f x ≡ Ok y)
+pub bind_ok : {A B : Type 0} (r : Result A PlacedFault) (f : A → Result B PlacedFault) (y : B) → (r >>= f) ≡ Ok y → (x : A) × (r ≡ Ok x) × (f x ≡ Ok y)
 bind_ok (Ok x) f y h = (x, refl, h)
 bind_ok (Err e) f y h = absurd (cc)
 
-pub guard_not : {A : Type 0} (b : Bool) (r : Result A Fault) (e : Fault) (y : A) → (if b then Err e else r) ≡ Ok y → (b ≡ false) × (r ≡ Ok y)
+pub guard_not : {A : Type 0} (b : Bool) (r : Result A PlacedFault) (e : PlacedFault) (y : A) → (if b then Err e else r) ≡ Ok y → (b ≡ false) × (r ≡ Ok y)
 guard_not true r e y h = absurd (cc)
 guard_not false r e y h = (refl, h)
 
 -- an instruction that was read stands at its offset, and the next one behind it
-stands : (b : Bool) (e : Fault) (at size more : ℕ) (made i : RawInstr) → 0 < size → made.offset ≡ at → made.next ≡ at + size + more → (if b then Err e else Ok made) ≡ Ok i → (i.offset ≡ at) × (at < i.next)
+stands : (b : Bool) (e : PlacedFault) (at size more : ℕ) (made i : RawInstr) → 0 < size → made.offset ≡ at → made.next ≡ at + size + more → (if b then Err e else Ok made) ≡ Ok i → (i.offset ≡ at) × (at < i.next)
 stands b e at size more made i some here behind h =
     let p : (b ≡ false) × (Ok made ≡ Ok i) = guard_not b (Ok made) e i h in
     let same : made ≡ i = cc in
@@ -32,7 +33,7 @@ places (Some Switch) p code i some h =
     let q : (nat_lt (length code) (behind p + 4) ≡ false) × (switch_at p code count ≡ Ok i) = guard_not _ (switch_at p code count) _ i h in
     stands (nat_lt (length code) (behind p + (4 + 4 * count))) _ p.at p.size (4 + 4 * count) _ i some refl refl q.1
 
-either : {A : Type 0} (P : A → Type 0) (b c : Bool) (e : Fault) (one two : Result A Fault) → ((i : A) → one ≡ Ok i → P i) → ((i : A) → two ≡ Ok i → P i)
+either : {A : Type 0} (P : A → Type 0) (b c : Bool) (e : PlacedFault) (one two : Result A PlacedFault) → ((i : A) → one ≡ Ok i → P i) → ((i : A) → two ≡ Ok i → P i)
     → (i : A) → (if b then one else if c then Err e else two) ≡ Ok i → P i
 either P true c e one two first second i h = first i h
 either P false true e one two first second i h = absurd (cc)
@@ -49,7 +50,7 @@ placed_at base code at i h =
     i h
 
 -- the instructions from one on
-abbrev pub rest_of : ℕ → ℕ → List ℕ → RawInstr → Result (List RawInstr) Fault
+abbrev pub rest_of : ℕ → ℕ → List ℕ → RawInstr → Result (List RawInstr) PlacedFault
 rest_of n base code i = instrs_from n base code i.next >>= (λ rest. Ok (i ∷ rest))
 
 -- what was read first, and then the rest
@@ -66,7 +67,7 @@ follows zero base code at xs h = let e : [] ≡ xs = cc in subst (λ v. Follow a
 follows (suc n) base code at xs h = by_test (nat_lt at (length code)) refl (λ i ys read. follows n base code i.next ys read)
   where
     by_test : (b : Bool) → nat_lt at (length code) ≡ b → ((i : RawInstr) (ys : List RawInstr) → instrs_from n base code i.next ≡ Ok ys → Follow i.next ys) → Follow at xs
-    by_test false e later = let empty : Result (List RawInstr) Fault = Ok [] in let none : empty ≡ Ok xs = rw e at h in let f : [] ≡ xs = cc in subst (λ v. Follow at v) f tt
+    by_test false e later = let empty : Result (List RawInstr) PlacedFault = Ok [] in let none : empty ≡ Ok xs = rw e at h in let f : [] ≡ xs = cc in subst (λ v. Follow at v) f tt
     by_test true e later =
         let p = split n base code at xs (rw e at h) in
         let here : (p.0.offset ≡ at) × (at < p.0.next) = placed_at base code at p.0 p.2 in
@@ -89,7 +90,7 @@ enough zero (suc n) base code at room le = absurd (omega arith)
 enough (suc m) zero base code at room le = rw (le-ltb at (length code) (omega arith)) refl
 enough (suc m) (suc n) base code at room le = by_test (nat_lt at (length code)) refl (λ i behind. enough m n base code i.next (omega (arith, behind)) (omega arith))
   where
-    same : (r : Result RawInstr Fault) → instr_at base code at ≡ r → ((i : RawInstr) → at < i.next → instrs_from m base code i.next ≡ instrs_from n base code i.next) → (r >>= rest_of m base code) ≡ (r >>= rest_of n base code)
+    same : (r : Result RawInstr PlacedFault) → instr_at base code at ≡ r → ((i : RawInstr) → at < i.next → instrs_from m base code i.next ≡ instrs_from n base code i.next) → (r >>= rest_of m base code) ≡ (r >>= rest_of n base code)
     same (Ok i) e later = ap (λ r. r >>= (λ rest. Ok (i ∷ rest))) (later i ((placed_at base code at i e).1))
     same (Err e) is later = refl
 

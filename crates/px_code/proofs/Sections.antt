@@ -4,7 +4,8 @@ use Rattle.std.specs.Prelude.{nat_lt, slice_index, IfOk, if◌then◌else◌}
 use Rattle.std.specs.List.{list_all}
 use Rattle.std.proofs.lemmas.List.Folds.{list_all-append}
 use Rattle.std.proofs.lemmas.Bool.{lt-ltb, le-ltb, ltb-false, ltb-true, and_from}
-use Rattle.px_code.specs.Reading.{Fault, ◌>>=◌, Gives}
+use Rattle.px_code.specs.Reading.{PlacedFault, Gives}
+use Rattle.px_reading.specs.Reading.{◌>>=◌}
 use Rattle.px_code.specs.declared.body.BodyFault.{BodyFault}
 use Rattle.px_code.specs.Body.{aligned, clause_at, clause_by, clause_size, clauses_at, clauses_in, has_next, is_fat, is_placed, is_table, section_behind, section_size, sections_from}
 use Rattle.px_code.specs.declared.body.BodyKind.TheVariants.{BadClause, Cut}
@@ -30,7 +31,7 @@ behind_all bytes at = by_size (section_size bytes at) (nat_lt (section_size byte
     by_size size false e = omega arith
 
 -- the clauses of a section whose next may follow
-abbrev and_then : ℕ → List RawInstr → List ℕ → ℕ → List RawClause → Result (List RawClause) Fault
+abbrev and_then : ℕ → List RawInstr → List ℕ → ℕ → List RawClause → Result (List RawClause) PlacedFault
 and_then n instrs bytes at clauses =
     if has_next (slice_index bytes at) then (sections_from n instrs bytes (section_behind bytes at) >>= λ rest. Ok (clauses ++ rest))
     else Ok clauses
@@ -47,7 +48,7 @@ enough (suc m) (suc n) instrs bytes at room also =
     rw later refl
 
 -- the sections from a place on
-abbrev pub left : List RawInstr → List ℕ → ℕ → Result (List RawClause) Fault
+abbrev pub left : List RawInstr → List ℕ → ℕ → Result (List RawClause) PlacedFault
 left instrs bytes at = sections_from (suc (length bytes - at)) instrs bytes at
 
 -- they are those that there may be
@@ -60,7 +61,7 @@ pub section_cut : (front : List RawClause) (instrs : List RawInstr) (bytes : Lis
 unfolding sections_from
 section_cut front instrs bytes at less = rw (lt-ltb (length bytes) (at + 4) less) refl
 
-pub section_refused : (front : List RawClause) (instrs : List RawInstr) (bytes : List ℕ) (at : ℕ) (e : Fault) → at + 4 ≤ length bytes
+pub section_refused : (front : List RawClause) (instrs : List RawInstr) (bytes : List ℕ) (at : ℕ) (e : PlacedFault) → at + 4 ≤ length bytes
     → clauses_in instrs bytes at ≡ Err e → onto front (left instrs bytes at) ≡ Err e
 unfolding sections_from
 section_refused front instrs bytes at e there read = rw (le-ltb (length bytes) (at + 4) there, read) refl
@@ -87,12 +88,12 @@ one_section front instrs bytes at clauses there read next =
 placed_at : (instrs : List RawInstr) (fat : Bool) (bytes : List ℕ) (at : ℕ) (clause : RawClause) → clause_at instrs fat bytes at ≡ Ok clause → is_placed instrs clause ≡ true
 placed_at instrs fat bytes at clause read =
     let made = clause_by fat bytes at in
-    let bad : Fault = (BadClause, at) in
-    let cut : Fault = (Cut, length bytes) in
+    let bad : PlacedFault = (BadClause, at) in
+    let cut : PlacedFault = (Cut, length bytes) in
     let p = guard_not (nat_lt (length bytes) (at + clause_size fat)) (if is_placed instrs made then Ok made else Err bad) cut clause read in
     by_test (is_placed instrs made) refl bad p.1
   where
-    by_test : (b : Bool) → is_placed instrs (clause_by fat bytes at) ≡ b → (bad : Fault) → (if b then Ok (clause_by fat bytes at) else Err bad) ≡ Ok clause → is_placed instrs clause ≡ true
+    by_test : (b : Bool) → is_placed instrs (clause_by fat bytes at) ≡ b → (bad : PlacedFault) → (if b then Ok (clause_by fat bytes at) else Err bad) ≡ Ok clause → is_placed instrs clause ≡ true
     by_test true e bad h = let same : clause_by fat bytes at ≡ clause = cc in sym (ap (is_placed instrs) same) ∙ e
     by_test false e bad h = absurd (cc)
 
@@ -121,7 +122,7 @@ pub all_placed : (n : ℕ) (instrs : List RawInstr) (bytes : List ℕ) (at : ℕ
 unfolding sections_from
 all_placed zero instrs bytes at clauses read = let none : [] ≡ clauses = cc in sym (ap (list_all (is_placed instrs)) none)
 all_placed (suc n) instrs bytes at clauses read =
-    let cut : Fault = (Cut, length bytes) in
+    let cut : PlacedFault = (Cut, length bytes) in
     let p = guard_not (nat_lt (length bytes) (at + 4)) (clauses_in instrs bytes at >>= and_then n instrs bytes at) cut clauses read in
     let q = bind_ok (clauses_in instrs bytes at) (and_then n instrs bytes at) clauses p.1 in
     by_next q.0 (has_next (slice_index bytes at)) (placed_in instrs bytes at q.0 q.1) q.2 (λ rest h. all_placed n instrs bytes (section_behind bytes at) rest h)
@@ -151,8 +152,8 @@ clauses_within (suc n) instrs fat bytes at clauses read =
     let q = bind_ok (clauses_at instrs fat bytes (at + clause_size fat) n) (λ rest. Ok (p.0 ∷ rest)) clauses p.2 in
     let all : p.0 ∷ q.0 ≡ clauses = cc in
     let others = clauses_within n instrs fat bytes (at + clause_size fat) q.0 q.1 in
-    let bad : Fault = (BadClause, at) in
-    let cut : Fault = (Cut, length bytes) in
+    let bad : PlacedFault = (BadClause, at) in
+    let cut : PlacedFault = (Cut, length bytes) in
     let made = clause_by fat bytes at in
     let here = guard_not (nat_lt (length bytes) (at + clause_size fat)) (if is_placed instrs made then Ok made else Err bad) cut p.0 p.1 in
     (sym (ap (λ c. length c) all) ∙ ap suc others.0, omega (arith, others.1, size_at_least fat, ltb-false (length bytes) (at + clause_size fat) here.0))
@@ -180,7 +181,7 @@ few_from : (n : ℕ) (instrs : List RawInstr) (bytes : List ℕ) (at : ℕ) (cla
 unfolding sections_from
 few_from zero instrs bytes at clauses read = let none : [] ≡ clauses = cc in let zero_of : 0 ≡ length clauses = ap (λ c. length c) none in omega (arith, zero_of)
 few_from (suc n) instrs bytes at clauses read =
-    let cut : Fault = (Cut, length bytes) in
+    let cut : PlacedFault = (Cut, length bytes) in
     let p = guard_not (nat_lt (length bytes) (at + 4)) (clauses_in instrs bytes at >>= and_then n instrs bytes at) cut clauses read in
     let q = bind_ok (clauses_in instrs bytes at) (and_then n instrs bytes at) clauses p.1 in
     let first = few_in instrs bytes at q.0 q.1 in

@@ -1,7 +1,8 @@
 -- The body of a method: its header, its code, and its clauses (Partition II, 25.4), and the opcodes of Partition III.
 use Rattle.std.specs.Prelude.{◌≡◌, ◌≢◌, ℕ, zero, suc, ◌+◌, ◌-◌, ◌*◌, ◌/◌, ◌%◌, ◌<◌, ◌^◌, ◌==◌, ◌&&◌, ◌||◌, not, nat_lt, nat_le, Bool, true, false, if◌then◌else◌, List, [], ◌∷◌, ◌++◌, length, take, drop, slice_index, Option, Some, None, Result, Ok, Err, find}
 use Rattle.std.specs.List.{list_all, list_any}
-use Rattle.px_code.specs.Reading.{Fault, ◌>>=◌}
+use Rattle.px_code.specs.Reading.{PlacedFault}
+use Rattle.px_reading.specs.Reading.{◌>>=◌}
 use Rattle.px_code.specs.declared.body.BodyKind.TheVariants.{BadHeader, Cut, BadOpcode, BadTarget, BadClause}
 use Rattle.px_code.specs.declared.body.Operand.{Operand}
 use Rattle.px_code.specs.declared.body.Operand.TheVariants.{Number, Target, Switch}
@@ -107,7 +108,7 @@ abbrev pub behind : Position → ℕ
 behind p = p.at + p.size
 
 -- the instruction where its operand lies within the code
-abbrev pub within : Position → List ℕ → ℕ → RawInstr → Result RawInstr Fault
+abbrev pub within : Position → List ℕ → ℕ → RawInstr → Result RawInstr PlacedFault
 within p code size instr = if nat_lt (length code) (behind p + size) then Err (Cut, p.base + behind p) else Ok instr
 
 -- an instruction with its operand of so many bytes
@@ -115,11 +116,11 @@ abbrev pub with_number : Position → ℕ → ℕ → List ℕ → RawInstr
 with_number p size operand targets = record { offset = p.at; next = behind p + size; opcode = p.opcode; operand = operand; targets = targets }
 
 -- a switch: the count of its targets, and the targets
-abbrev pub switch_at : Position → List ℕ → ℕ → Result RawInstr Fault
+abbrev pub switch_at : Position → List ℕ → ℕ → Result RawInstr PlacedFault
 switch_at p code count = let size = 4 + 4 * count in
     within p code size (with_number p size 0 (targets_at (behind p + size) code (behind p + 4) count))
 
-abbrev pub instr_of : Option Operand → Position → List ℕ → Result RawInstr Fault
+abbrev pub instr_of : Option Operand → Position → List ℕ → Result RawInstr PlacedFault
 instr_of None p code = Err (BadOpcode, p.base + p.at + (p.size - 1))
 instr_of (Some (Number size)) p code = within p code size (with_number p size (number_at code (behind p) size) [])
 instr_of (Some (Target size)) p code =
@@ -128,18 +129,18 @@ instr_of (Some Switch) p code =
     if nat_lt (length code) (behind p + 4) then Err (Cut, p.base + behind p) else switch_at p code (number_at code (behind p) 4)
 
 -- the instruction of an opcode of so many bytes
-abbrev pub instr_by : ℕ → List ℕ → ℕ → ℕ → ℕ → Result RawInstr Fault
+abbrev pub instr_by : ℕ → List ℕ → ℕ → ℕ → ℕ → Result RawInstr PlacedFault
 instr_by base code at opcode size = instr_of (operand_of opcode) (record { base = base; at = at; opcode = opcode; size = size }) code
 
 -- the instruction at an offset of the code, which begins `base` bytes after the header
-unfoldable pub instr_at : ℕ → List ℕ → ℕ → Result RawInstr Fault
+unfoldable pub instr_at : ℕ → List ℕ → ℕ → Result RawInstr PlacedFault
 instr_at base code at =
     if not (slice_index code at == 0xFE) then instr_by base code at (slice_index code at) 1
     else if nat_le (length code) (at + 1) then Err (Cut, base + at + 1)
     else instr_by base code at (0xFE00 + slice_index code (at + 1)) 2
 
 -- the instructions from an offset to the end of the code, at most so many
-unfoldable pub instrs_from : ℕ → ℕ → List ℕ → ℕ → Result (List RawInstr) Fault
+unfoldable pub instrs_from : ℕ → ℕ → List ℕ → ℕ → Result (List RawInstr) PlacedFault
 instrs_from zero base code at = Ok []
 instrs_from (suc n) base code at =
     if nat_lt at (length code)
@@ -203,14 +204,14 @@ abbrev pub clause_by : Bool → List ℕ → ℕ → RawClause
 clause_by is_fat bytes at = if is_fat then fat_clause bytes at else small_clause bytes at
 
 -- the clause at a place, counted from the header
-abbrev pub clause_at : List RawInstr → Bool → List ℕ → ℕ → Result RawClause Fault
+abbrev pub clause_at : List RawInstr → Bool → List ℕ → ℕ → Result RawClause PlacedFault
 clause_at instrs is_fat bytes at =
     if nat_lt (length bytes) (at + clause_size is_fat) then Err (Cut, length bytes)
     else if is_placed instrs (clause_by is_fat bytes at) then Ok (clause_by is_fat bytes at)
     else Err (BadClause, at)
 
 -- so many clauses from a place on
-abbrev pub clauses_at : List RawInstr → Bool → List ℕ → ℕ → ℕ → Result (List RawClause) Fault
+abbrev pub clauses_at : List RawInstr → Bool → List ℕ → ℕ → ℕ → Result (List RawClause) PlacedFault
 clauses_at instrs is_fat bytes at zero = Ok []
 clauses_at instrs is_fat bytes at (suc n) =
     clause_at instrs is_fat bytes at >>= λ clause. clauses_at instrs is_fat bytes (at + clause_size is_fat) n >>= λ rest. Ok (clause ∷ rest)
@@ -234,12 +235,12 @@ abbrev pub section_behind : List ℕ → ℕ → ℕ
 section_behind bytes at = let size = section_size bytes at in aligned (at + (if nat_lt size 4 then 4 else size))
 
 -- the clauses of a section whose first four bytes are there; a section of another kind has none
-abbrev pub clauses_in : List RawInstr → List ℕ → ℕ → Result (List RawClause) Fault
+abbrev pub clauses_in : List RawInstr → List ℕ → ℕ → Result (List RawClause) PlacedFault
 clauses_in instrs bytes at = let kind = slice_index bytes at in
     if is_table kind then clauses_at instrs (is_fat kind) bytes (at + 4) (section_size bytes at / clause_size (is_fat kind)) else Ok []
 
 -- the clauses of the sections from a place on, of at most so many sections
-unfoldable pub sections_from : ℕ → List RawInstr → List ℕ → ℕ → Result (List RawClause) Fault
+unfoldable pub sections_from : ℕ → List RawInstr → List ℕ → ℕ → Result (List RawClause) PlacedFault
 sections_from zero instrs bytes at = Ok []
 sections_from (suc n) instrs bytes at =
     if nat_lt (length bytes) (at + 4) then Err (Cut, length bytes)
@@ -259,7 +260,7 @@ pub record Header : Type 0 where
   pub more : Bool
 
 -- the code behind a header of one byte
-abbrev pub tiny_code : List ℕ → ℕ → Result Header Fault
+abbrev pub tiny_code : List ℕ → ℕ → Result Header PlacedFault
 tiny_code bytes size =
     if size == 0 then Err (BadHeader, 0)
     else if nat_lt (length bytes) (size + 1) then Err (Cut, length bytes)
@@ -277,7 +278,7 @@ fat_header bytes size = record {
 }
 
 -- the code behind a header of twelve bytes, which says so in the top four bits of its first two bytes, by the number of 4-byte words
-abbrev pub fat_code : List ℕ → Result Header Fault
+abbrev pub fat_code : List ℕ → Result Header PlacedFault
 fat_code bytes =
     if nat_lt (length bytes) 12 then Err (Cut, length bytes)
     else let size = number_at bytes 4 4 in
@@ -285,7 +286,7 @@ fat_code bytes =
     else if nat_lt (length bytes) (12 + size) then Err (Cut, length bytes)
     else Ok (fat_header bytes size)
 
-abbrev pub header_of : List ℕ → Result Header Fault
+abbrev pub header_of : List ℕ → Result Header PlacedFault
 header_of [] = Err (Cut, 0)
 header_of (first ∷ rest) =
     if first % 4 == 3 then fat_code (first ∷ rest)
@@ -295,19 +296,19 @@ header_of (first ∷ rest) =
 -- BODIES
 
 -- the clauses of the sections behind the code, where there are any
-abbrev pub clauses_of : Header → List RawInstr → List ℕ → Result (List RawClause) Fault
+abbrev pub clauses_of : Header → List RawInstr → List ℕ → Result (List RawClause) PlacedFault
 clauses_of h instrs bytes = if h.more then sections_from (length bytes) instrs bytes (aligned (h.base + length h.code)) else Ok []
 
 abbrev pub made_of : Header → List RawInstr → List RawClause → Body
 made_of h instrs clauses = record { max_stack = h.max_stack; init_locals = h.init_locals; locals_token = h.locals_token; code = instrs; clauses = clauses }
 
 -- the branches are looked at before the clauses
-abbrev pub checked : Header → List RawInstr → Option RawInstr → List ℕ → Result Body Fault
+abbrev pub checked : Header → List RawInstr → Option RawInstr → List ℕ → Result Body PlacedFault
 checked h instrs None bytes = clauses_of h instrs bytes >>= λ clauses. Ok (made_of h instrs clauses)
 checked h instrs (Some i) bytes = Err (BadTarget, h.base + i.offset)
 
 -- the body that the bytes begin with, or the first fault
-unfoldable pub body_of : List ℕ → Result Body Fault
+unfoldable pub body_of : List ℕ → Result Body PlacedFault
 body_of bytes = header_of bytes >>= λ h. instrs_from (length h.code) h.base h.code 0 >>= λ instrs. checked h instrs (first_bad instrs) bytes
 
 -- instructions that follow each other from an offset

@@ -5,7 +5,7 @@ use sqlite_items::Items;
 use std::alloc::{AllocError, AllocFailed};
 
 /// What is wrong with a body.
-#[derive(Clone, Copy, Debug, PartialEq, Eq)]
+#[derive(Clone, Copy, PartialEq, Eq)]
 pub enum BodyKind {
     /// The header is of no known form, or says that there is no code.
     BadHeader,
@@ -20,7 +20,7 @@ pub enum BodyKind {
 }
 
 /// Why a body isn't read: want of memory, or what is wrong and at which byte, counted from the header.
-#[derive(Clone, Copy, Debug, PartialEq, Eq)]
+#[derive(Clone, Copy, PartialEq, Eq)]
 pub enum BodyFault {
     Memory,
     Bad { kind: BodyKind, at: u32 },
@@ -56,7 +56,7 @@ impl<T: Drop> From<AllocFailed<T>> for BodyFault {
 }
 
 /// What follows an opcode, by its size in bytes: a number, or how far a branch leads. A switch has a count of targets, and these.
-#[derive(Clone, Copy, Debug, PartialEq, Eq)]
+#[derive(Clone, Copy, PartialEq, Eq)]
 pub enum Operand {
     Number(u32),
     Target(u32),
@@ -76,7 +76,7 @@ pub struct RawInstr {
 
 /// A clause of a protected range as it stands behind the code: Partition II, 25.4.6. `to` and `stop` are the ends of the two ranges,
 /// and `class` is the token of the class that a catch is for, or where a filter starts. Flags: 0 catch, 1 filter, 2 finally, 4 fault.
-#[derive(Clone, Copy, Debug, PartialEq, Eq)]
+#[derive(Clone, Copy, PartialEq, Eq)]
 pub struct RawClause {
     pub flags: u32,
     pub from: u32,

@@ -10,8 +10,6 @@ mod offsets;
 mod opcode;
 mod read;
 mod section;
-#[cfg(test)]
-mod tests;
 
 pub use body::{Body, BodyFault, BodyKind, Operand, RawClause, RawInstr};
 pub use read::read_body;

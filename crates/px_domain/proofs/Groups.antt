@@ -5,7 +5,8 @@ use Rattle.px_program.specs.declared.program.Place.{Place}
 use Rattle.px_domain.specs.declared.domain.Part.{Part}
 use Rattle.px_domain.specs.declared.fault.DomainFault.{DomainFault}
 use Rattle.px_domain.specs.declared.fault.DomainFault.TheVariants as faults
-use Rattle.px_domain.specs.Grammar.{◌>>=◌, Fails, domain_of, empty_domain, end_at, group_at, groups_at}
+use Rattle.px_domain.specs.Grammar.{Fails, domain_of, empty_domain, end_at, group_at, groups_at}
+use Rattle.px_reading.specs.Reading.{◌>>=◌}
 use Rattle.px_domain.specs.Reading.{FailsAt}
 
 -- what reading gives with these parts before it

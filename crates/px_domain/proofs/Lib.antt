@@ -3,3 +3,4 @@ pub mod Numerals
 pub mod Ranges
 pub mod ReadBack
 pub mod Tuples
+pub mod Widths

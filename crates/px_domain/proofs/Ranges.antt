@@ -10,7 +10,8 @@ use Rattle.px_domain.specs.declared.domain.Part.TheVariants.{Scalar}
 use Rattle.px_domain.specs.Place.{low_end, high_end, is_within}
 use Rattle.px_domain.specs.Domain.{IsRange, place_of, places_of}
 use Rattle.px_domain.specs.declared.place.Span.{Span}
-use Rattle.px_domain.specs.Grammar.{◌>>=◌, Read, domain_of, end_at, expect, group_at, groups_at, in_range, number_at, number_of_text, number_or, numeral_of, range_at, span_at}
+use Rattle.px_domain.specs.Grammar.{domain_of, end_at, expect, group_at, groups_at, in_range, number_at, number_of_text, number_or, numeral_of, range_at, span_at}
+use Rattle.px_reading.specs.Reading.{◌>>=◌, Read}
 use Rattle.px_domain.proofs.Numerals.{within_ends}
 
 -- a reading that goes on has read something

@@ -1,5 +1,5 @@
 -- The argument words that a domain has, and its tuples by number.
-use Rattle.std.specs.Prelude.{◌≡◌, ℕ, ◌*◌, ◌/◌, ◌%◌, ◌<◌, ◌^◌, List, [], ◌∷◌, map, Option, Some, None, ℤ, pos, ◌+ℤ◌, ◌-ℤ◌, ◌≤ℤ◌}
+use Rattle.std.specs.Prelude.{◌≡◌, ℕ, ◌*◌, ◌/◌, ◌%◌, ◌<◌, ◌^◌, List, [], ◌∷◌, map, Option, Some, None, ◌-◌, ℤ, pos, neg_ℤ, ◌+ℤ◌, ◌-ℤ◌, ◌≤ℤ◌}
 use Rattle.std.specs.Int.RustNames.{unsigned_abs}
 use Rattle.px_program.specs.declared.program.Place.{Place}
 use Rattle.px_program.specs.declared.program.Method.{Method}
@@ -25,6 +25,20 @@ place_of (Scalar place low high) = place
 -- the first number of a part
 abbrev pub low_of : Part → ℤ
 low_of (Scalar place low high) = low
+
+-- the last number of a part
+abbrev pub high_of : Part → ℤ
+high_of (Scalar place low high) = high
+
+-- no more than 2 ^ 64 numbers, in order
+pub record IsShort (low high : ℤ) : Type 0 where
+  pub first : neg_ℤ (pos (2 ^ 63)) ≤ℤ low
+  pub order : low ≤ℤ high
+  pub last : high ≤ℤ pos (2 ^ 64 - 1)
+  pub few : (high -ℤ low) ≤ℤ pos (2 ^ 64 - 1)
+
+abbrev pub width_of : ℤ → ℤ → ℕ
+width_of low high = unsigned_abs ((high -ℤ low) +ℤ pos 1)
 
 -- what each part ranges over
 abbrev pub places_of : List Part → List Place

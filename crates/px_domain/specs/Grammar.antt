@@ -6,6 +6,7 @@ use Rattle.std.specs.Fmt.{signed_decimal}
 use Rattle.std.specs.List.{starts_with}
 use Rattle.std.specs.Str.{bytes_eq}
 use Rattle.std.specs.Str.Parse.{signed_digits_value}
+use Rattle.px_reading.specs.Reading.{Read, ◌>>=◌}
 use Rattle.px_program.specs.declared.program.Place.{Place}
 use Rattle.px_domain.specs.declared.domain.Part.{Part}
 use Rattle.px_domain.specs.declared.domain.Part.TheVariants.{Scalar}
@@ -13,17 +14,6 @@ use Rattle.px_domain.specs.declared.place.Span.{Span}
 use Rattle.px_domain.specs.declared.fault.DomainFault.{DomainFault}
 use Rattle.px_domain.specs.declared.fault.DomainFault.TheVariants as faults
 use Rattle.px_domain.specs.Place.{low_end, high_end, is_within}
-
--- the second reading goes on with what the first gives; a fault is its place in the text
-infixl 10 ◌>>=◌
-abbrev pub ◌>>=◌ : {A B : Type 0} → Result A ℕ → (A → Result B ℕ) → Result B ℕ
-(Ok x) >>= f = f x
-(Err at) >>= f = Err at
-
--- what is read, and the place behind it
-pub record Read (X : Type 0) : Type 0 where
-  pub value : X
-  pub end : ℕ
 
 -- the longest run of digits, perhaps behind a `-`, that a text begins with
 abbrev pub numeral_of : List ℕ → List ℕ

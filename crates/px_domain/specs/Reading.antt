@@ -2,7 +2,7 @@
 use Rattle.std.specs.Prelude.{◌≡◌, ℕ, Result, Ok, Err}
 use Rattle.px_domain.specs.declared.fault.DomainFault.{DomainFault}
 use Rattle.px_domain.specs.declared.fault.DomainFault.TheVariants as faults
-use Rattle.px_domain.specs.Grammar.{Read}
+use Rattle.px_reading.specs.Reading.{Read}
 
 -- the fault is that of the reading, and never want of memory
 abbrev pub FailsAt : {X : Type 0} → DomainFault → Result X ℕ → Type 0

@@ -18,6 +18,7 @@ pub(crate) struct Cursor<'t> {
 }
 
 impl<'t> Cursor<'t> {
+    /// A cursor at the first byte of the text.
     pub fn new(text: &'t [u8]) -> Cursor<'t>
         requires { length text.now < 2 ^ 32 }
         ensures text { result.text.now ≡ text.now }
@@ -33,7 +34,7 @@ impl<'t> Cursor<'t> {
         &self.text[self.at as usize..]
     }
 
-    // Steps over these bytes. Where others stand, the fault is at the place that is given.
+    /// Steps over these bytes. Where others stand, the fault is at the place that is given.
     pub fn expect(&mut self, bytes: &[u8], fault: u32) -> Result<(), DomainFault>
         ensures steps { Steps result self.new.at (expect bytes.now self.old.text.now self.old.at fault) }
         ensures text { self.new.text.now ≡ self.old.text.now }
@@ -90,7 +91,7 @@ impl<'t> Cursor<'t> {
         self.span(place)
     }
 
-    // The range of a parameter of the place, in parentheses.
+    /// The range of a parameter of the place, in parentheses.
     #[tactic(auto, unfolding(crate::specs::Grammar::group_at))]
     pub fn group(&mut self, place: Place) -> Result<Part, DomainFault>
         ensures reads { Reads result self.new.at (group_at place self.old.text.now self.old.at) }
@@ -103,7 +104,7 @@ impl<'t> Cursor<'t> {
         Ok(Part::Scalar { place, low, high })
     }
 
-    // That nothing is left.
+    /// That nothing is left.
     pub fn end(&self) -> Result<(), DomainFault>
         ensures { Steps result self.now.at (end_at self.now.text.now self.now.at) }
     {

@@ -1,7 +1,7 @@
 // Domains and their tuples.
 ghost use Rattle.std.specs.Prelude.{◌≡◌, ◌≤◌, ◌<◌, ◌^◌, ◌↔◌, ℕ, List, IfOk, IsTrue, SomeIff};
 ghost use Rattle.std.specs.List.{AllByRecursion};
-ghost use Rattle.px_domain.specs.Domain.{InDomain, IsOf, IsRange, IsTuple, low_of, part_size, place_of, size_of, tuple_of, word_at};
+ghost use Rattle.px_domain.specs.Domain.{InDomain, IsOf, IsRange, IsShort, IsTuple, high_of, low_of, part_size, place_of, size_of, tuple_of, width_of, word_at};
 
 use crate::place::{is_word, number_of, word_of};
 use px_program::{Place, Words};
@@ -9,8 +9,18 @@ use sqlite_items::Items;
 use std::alloc::{AllocError, Global};
 use std::marker::Model;
 
+// How many numbers there are from one to another.
+fn width_of(low: i128, high: i128) -> u128
+    requires range { IsShort low high }
+    ensures size { result ≡ width_of low high }
+    ensures some { 0 < result }
+    ensures small { result ≤ 2 ^ 64 }
+{
+    (high - low + 1) as u128
+}
+
 /// What one parameter ranges over.
-#[derive(Clone, Copy, Debug, PartialEq, Eq)]
+#[derive(Clone, Copy, PartialEq, Eq)]
 pub enum Part {
     /// The numbers of an integer place from `low` to `high`, both among them.
     Scalar { place: Place, low: i128, high: i128 },
@@ -33,6 +43,14 @@ impl Part {
         low
     }
 
+    // The last number of the part.
+    fn high(self) -> i128
+        ensures { result ≡ high_of self }
+    {
+        let Part::Scalar { high, .. } = self;
+        high
+    }
+
     // Whether the word is one of the part's.
     fn has(self, word: u64) -> bool
         ensures { IsTrue result ↔ IsOf word self }
@@ -46,14 +64,14 @@ impl Part {
     }
 
     // How many words the part has.
+    #[tactic(auto, using(crate::proofs::Widths::short_range, crate::proofs::Widths::width_is))]
     fn size(self) -> u128
         requires { IsRange self }
         ensures size { result ≡ part_size self }
         ensures some { 0 < result }
         ensures small { result ≤ 2 ^ 64 }
     {
-        let Part::Scalar { low, high, .. } = self;
-        (high - low + 1) as u128
+        width_of(self.low(), self.high())
     }
 
     // The word of a number within the part.

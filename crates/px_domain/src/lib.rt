@@ -7,8 +7,6 @@ mod fault;
 mod number;
 mod place;
 mod read;
-#[cfg(test)]
-mod tests;
 
 pub use domain::{Domain, Part};
 pub use fault::DomainFault;

@@ -5,14 +5,14 @@ ghost use Rattle.px_domain.specs.Place.{high_end, is_signed, is_within, is_wide,
 use px_program::Place;
 
 /// The numbers from one to another.
-#[derive(Clone, Copy, Debug, PartialEq, Eq)]
+#[derive(Clone, Copy, PartialEq, Eq)]
 pub struct Span {
     pub low: i128,
     pub high: i128,
 }
 
 impl Span {
-    // Whether the number is one of them.
+    /// Whether the number is one of them.
     pub fn has(self, number: i128) -> bool
         ensures { IsTrue result ↔ ((self.low ≤ℤ number) × (number ≤ℤ self.high)) }
     {

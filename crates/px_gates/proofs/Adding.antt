@@ -3,10 +3,10 @@ use Rattle.std.proofs.Common.{◌≡◌, ℕ, suc, ◌+◌, ◌*◌, ◌<◌, �
 use Rattle.px_chain.specs.Clause.{Formula, IsOver, variable_of}
 use Rattle.px_chain.specs.Resolution.{positive}
 use Rattle.px_gates.specs.Circuit.{with_circuit}
-use Rattle.px_gates.specs.Gate.{Keeps}
+use Rattle.px_gates.specs.Gate.{KeepsFormula}
 use Rattle.px_gates.specs.Sum.{sum_bits, sum_carry, sum_circuit}
-use Rattle.px_gates.proofs.Circuits.{Keeps-circuit}
-use Rattle.px_gates.proofs.Formulas.{Keeps-same, Keeps-trans, all_read}
+use Rattle.px_gates.proofs.Circuits.{KeepsFormula-circuit}
+use Rattle.px_gates.proofs.Formulas.{KeepsFormula-same, KeepsFormula-trans, all_read}
 use Rattle.px_gates.proofs.Literals.{variable_of-positive}
 
 pub record HasAdded (old : Formula) (xs ys : List ℕ) (first k : ℕ) (f : Formula) (bits : List ℕ) (carry : ℕ) : Type 0 where
@@ -15,10 +15,10 @@ pub record HasAdded (old : Formula) (xs ys : List ℕ) (first k : ℕ) (f : Form
   pub low : bits ++ sum_bits f.vars (length (drop k xs)) ≡ sum_bits old.vars (length xs)
   pub last : sum_carry f.vars (length (drop k xs)) carry ≡ sum_carry old.vars (length xs) first
   pub over : variable_of carry < f.vars
-  pub keeps : Keeps old f
+  pub keeps : KeepsFormula old f
 
 pub HasAdded-none : (old : Formula) (xs ys : List ℕ) (first : ℕ) → variable_of first < old.vars → HasAdded old xs ys first 0 old [] first
-HasAdded-none old xs ys first lt = record { vars = omega arith; circuit = refl; low = refl; last = refl; over = lt; keeps = Keeps-same old }
+HasAdded-none old xs ys first lt = record { vars = omega arith; circuit = refl; low = refl; last = refl; over = lt; keeps = KeepsFormula-same old }
 
 next_circuit : (f g : Formula) (x y : ℕ) (xs ys : List ℕ) (carry : ℕ) → g ≡ with_circuit f (sum_circuit f.vars (x ∷ []) (y ∷ []) carry)
     → with_circuit g (sum_circuit g.vars xs ys (positive (f.vars + 2))) ≡ with_circuit f (sum_circuit f.vars (x ∷ xs) (y ∷ ys) carry)
@@ -63,14 +63,14 @@ module _ (old : Formula) (xs ys : List ℕ) (first k : ℕ) (f : Formula) (bits 
       let w = is.vars in
       let u = variable_of-positive (f.vars + 2) in
       let a = ap variable_of above_is in
-      let kept = subst (Keeps f) (sym g_is) (Keeps-circuit f (sum_circuit f.vars (x ∷ []) (y ∷ []) carry)) in
+      let kept = subst (KeepsFormula f) (sym g_is) (KeepsFormula-circuit f (sum_circuit f.vars (x ∷ []) (y ∷ []) carry)) in
       record {
         vars = omega arith;
         circuit = more_circuit;
         low = more_low;
         last = more_last;
         over = omega arith;
-        keeps = Keeps-trans old f g is.keeps kept;
+        keeps = KeepsFormula-trans old f g is.keeps kept;
       }
 
 -- what a full adder asks of its bits and its carry

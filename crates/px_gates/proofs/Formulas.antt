@@ -5,12 +5,12 @@ use Rattle.std.specs.Borrow.{Bor}
 use Rattle.std.specs.List.{AllByRecursion, slice_get}
 use Rattle.std.specs.declared.alloc.AllocError.{AllocError}
 use Rattle.std.proofs.lemmas.List.{map-append, take_more}
-use Rattle.px_chain.specs.Clause.{Ascends, Assignment, Formula, IsFormula, IsOver, MeetsAll, clause_of, holds}
+use Rattle.px_chain.specs.Clause.{Ascends, Valuation, Formula, IsFormula, IsOver, MeetsAll, clause_of, holds}
 use Rattle.px_chain.specs.Resolution.{negative, positive}
 use Rattle.px_chain.proofs.Members.{Ascends-clause_of, IsOver-clause_of}
 use Rattle.px_chain.proofs.Stores.{all_at}
 use Rattle.px_gates.specs.declared.gate.Gate.{Gate}
-use Rattle.px_gates.specs.Gate.{IsOfGates, Keeps, base, inputs_of, literals_of, with_clauses, with_gate, with_variable}
+use Rattle.px_gates.specs.Gate.{IsOfGates, KeepsFormula, base, inputs_of, literals_of, with_clauses, with_gate, with_variable}
 use Rattle.px_gates.proofs.GateValues.{literals_of-over}
 use Rattle.px_gates.proofs.Literals.{IsOver-more, Met, MeetsAll-append, MeetsAll-back, MeetsAll-front, all_append, all_weaker, holds-negative, holds-positive, meets-one, one-meets, variable_of-positive}
 
@@ -20,31 +20,31 @@ same_formula f g vars clauses = ap₂ (λ n cs. record { vars = n; clauses = cs 
 
 -- ---- what is kept
 
-pub Keeps-same : (f : Formula) → Keeps f f
-Keeps-same f = record { vars = omega arith; more = []; clauses = sym (append-nil f.clauses) }
+pub KeepsFormula-same : (f : Formula) → KeepsFormula f f
+KeepsFormula-same f = record { vars = omega arith; more = []; clauses = sym (append-nil f.clauses) }
 
-pub Keeps-trans : (f g h : Formula) → Keeps f g → Keeps g h → Keeps f h
-Keeps-trans f g h k l = record {
+pub KeepsFormula-trans : (f g h : Formula) → KeepsFormula f g → KeepsFormula g h → KeepsFormula f h
+KeepsFormula-trans f g h k l = record {
   vars = let a = k.vars in let b = l.vars in omega arith;
   more = k.more ++ l.more;
   clauses = l.clauses ∙ ap (λ (cs : List (List ℕ)). cs ++ l.more) k.clauses ∙ append_assoc f.clauses k.more l.more;
 }
 
-pub Keeps-variable : (f : Formula) → Keeps f (with_variable f)
-Keeps-variable f = record { vars = omega arith; more = []; clauses = sym (append-nil f.clauses) }
+pub KeepsFormula-variable : (f : Formula) → KeepsFormula f (with_variable f)
+KeepsFormula-variable f = record { vars = omega arith; more = []; clauses = sym (append-nil f.clauses) }
 
-pub Keeps-clauses : (f : Formula) (literals : List (List ℕ)) → Keeps f (with_clauses f literals)
-Keeps-clauses f literals = record { vars = omega arith; more = map clause_of literals; clauses = refl }
+pub KeepsFormula-clauses : (f : Formula) (literals : List (List ℕ)) → KeepsFormula f (with_clauses f literals)
+KeepsFormula-clauses f literals = record { vars = omega arith; more = map clause_of literals; clauses = refl }
 
-pub Keeps-gate : (f : Formula) (gate : Gate) → Keeps f (with_gate f gate)
-Keeps-gate f gate = Keeps-trans f (with_variable f) (with_gate f gate) (Keeps-variable f) (Keeps-clauses (with_variable f) (literals_of (positive f.vars) gate))
+pub KeepsFormula-gate : (f : Formula) (gate : Gate) → KeepsFormula f (with_gate f gate)
+KeepsFormula-gate f gate = KeepsFormula-trans f (with_variable f) (with_gate f gate) (KeepsFormula-variable f) (KeepsFormula-clauses (with_variable f) (literals_of (positive f.vars) gate))
 
 -- a gate, and what is added after it
-pub Keeps-next : (f g h : Formula) (gate : Gate) → g ≡ with_gate f gate → Keeps g h → Keeps f h
-Keeps-next f g h gate e k = Keeps-trans f g h (subst (Keeps f) (sym e) (Keeps-gate f gate)) k
+pub KeepsFormula-next : (f g h : Formula) (gate : Gate) → g ≡ with_gate f gate → KeepsFormula g h → KeepsFormula f h
+KeepsFormula-next f g h gate e k = KeepsFormula-trans f g h (subst (KeepsFormula f) (sym e) (KeepsFormula-gate f gate)) k
 
 -- what meets a formula meets what it keeps
-pub MeetsAll-kept : (a : Assignment) (f g : Formula) → Keeps f g → MeetsAll a g.clauses → MeetsAll a f.clauses
+pub MeetsAll-kept : (a : Valuation) (f g : Formula) → KeepsFormula f g → MeetsAll a g.clauses → MeetsAll a f.clauses
 MeetsAll-kept a f g k met = MeetsAll-front a f.clauses k.more (subst (MeetsAll a) k.clauses met)
 
 -- ---- formulas
@@ -109,7 +109,7 @@ IsOfGates-clauses f literals over is = record {
 }
 
 -- a formula that keeps one of gates
-pub IsOfGates-kept : (f g : Formula) → Keeps f g → IsFormula g → IsOfGates f → IsOfGates g
+pub IsOfGates-kept : (f g : Formula) → KeepsFormula f g → IsFormula g → IsOfGates f → IsOfGates g
 IsOfGates-kept f g kept formula is = record {
   formula = formula;
   some = let a = kept.vars in let b = is.some in omega arith;
@@ -130,19 +130,19 @@ pub IsOfGates-base : IsOfGates base
 IsOfGates-base = record { formula = IsFormula-base; some = omega arith; first = refl }
 
 -- variable 0 is true
-pub holds-true : (a : Assignment) (f : Formula) → IsOfGates f → MeetsAll a f.clauses → holds a (positive 0) ≡ true
+pub holds-true : (a : Valuation) (f : Formula) → IsOfGates f → MeetsAll a f.clauses → holds a (positive 0) ≡ true
 holds-true a f is met = meets-one a (positive 0) (all_at (Met a) f.clauses 0 (positive 0 ∷ []) met is.first)
 
-pub holds-false : (a : Assignment) (f : Formula) → IsOfGates f → MeetsAll a f.clauses → holds a (negative 0) ≡ false
+pub holds-false : (a : Valuation) (f : Formula) → IsOfGates f → MeetsAll a f.clauses → holds a (negative 0) ≡ false
 holds-false a f is met = holds-negative a 0 ∙ ap not (sym (holds-positive a 0) ∙ holds-true a f is met)
 
-pub MeetsAll-base : (a : Assignment) → a 0 ≡ true → MeetsAll a base.clauses
+pub MeetsAll-base : (a : Valuation) → a 0 ≡ true → MeetsAll a base.clauses
 MeetsAll-base a true_at = (one-meets a (positive 0) (holds-positive a 0 ∙ true_at), tt)
 
 -- ---- literals that are required
 
-pub MeetsAll-require : (a : Assignment) (f : Formula) (x : ℕ) → MeetsAll a f.clauses → holds a x ≡ true → MeetsAll a (with_clauses f ((x ∷ []) ∷ [])).clauses
+pub MeetsAll-require : (a : Valuation) (f : Formula) (x : ℕ) → MeetsAll a f.clauses → holds a x ≡ true → MeetsAll a (with_clauses f ((x ∷ []) ∷ [])).clauses
 MeetsAll-require a f x met held = MeetsAll-append a f.clauses ((x ∷ []) ∷ []) met (one-meets a x held, tt)
 
-pub holds-required : (a : Assignment) (f : Formula) (x : ℕ) → MeetsAll a (with_clauses f ((x ∷ []) ∷ [])).clauses → holds a x ≡ true
+pub holds-required : (a : Valuation) (f : Formula) (x : ℕ) → MeetsAll a (with_clauses f ((x ∷ []) ∷ [])).clauses → holds a x ≡ true
 holds-required a f x met = meets-one a x (MeetsAll-back a f.clauses ((x ∷ []) ∷ []) met).0

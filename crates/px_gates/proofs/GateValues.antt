@@ -1,7 +1,7 @@
 -- A gate's clauses are met exactly where its literal has the gate's value.
 use Rattle.std.proofs.Common.{◌≡◌, ℕ, ◌<◌, Bool, true, false, not, ◌&&◌, ◌||◌, cond, map, ap, ap₂, ◌∙◌, arith}
 use Rattle.std.specs.List.{AllByRecursion}
-use Rattle.px_chain.specs.Clause.{Assignment, Formula, IsOver, MeetsAll, clause_of, holds, variable_of}
+use Rattle.px_chain.specs.Clause.{Valuation, Formula, IsOver, MeetsAll, clause_of, holds, variable_of}
 use Rattle.px_chain.specs.Resolution.{positive}
 use Rattle.px_gates.specs.declared.gate.Gate.{Gate}
 use Rattle.px_gates.specs.declared.gate.Gate.TheVariants.{And, Xor, Mux, Majority}
@@ -49,7 +49,7 @@ majority_met z x y c nz nx ny nc ez ex ey ec e = (grind arith, (grind arith, (gr
 -- ---- clauses of a gate
 
 -- where a gate's clauses are met its literal has its value
-pub value-met : (a : Assignment) (z : ℕ) (gate : Gate) → MeetsAll a (literals_of z gate) → holds a z ≡ value_of a gate
+pub value-met : (a : Valuation) (z : ℕ) (gate : Gate) → MeetsAll a (literals_of z gate) → holds a z ≡ value_of a gate
 value-met a z (And x y) met =
     and_value _ _ _ _ _ _ (holds-complement a z) (holds-complement a x) (holds-complement a y) met.0 met.1.0 met.1.1.0
 value-met a z (Xor x y) met =
@@ -61,7 +61,7 @@ value-met a z (Majority x y c) met =
     met.0 met.1.0 met.1.1.0 met.1.1.1.0 met.1.1.1.1.0 met.1.1.1.1.1.0
 
 -- where a literal has the gate's value the clauses are met
-pub gate-met : (a : Assignment) (z : ℕ) (gate : Gate) → holds a z ≡ value_of a gate → MeetsAll a (literals_of z gate)
+pub gate-met : (a : Valuation) (z : ℕ) (gate : Gate) → holds a z ≡ value_of a gate → MeetsAll a (literals_of z gate)
 gate-met a z (And x y) e = and_met _ _ _ _ _ _ (holds-complement a z) (holds-complement a x) (holds-complement a y) e
 gate-met a z (Xor x y) e = xor_met _ _ _ _ _ _ (holds-complement a z) (holds-complement a x) (holds-complement a y) e
 gate-met a z (Mux choice x y) e =
@@ -70,7 +70,7 @@ gate-met a z (Majority x y c) e =
     majority_met _ _ _ _ _ _ _ _ (holds-complement a z) (holds-complement a x) (holds-complement a y) (holds-complement a c) e
 
 -- the law of one gate
-pub gate-value : (f : Formula) (gate : Gate) (a : Assignment) → MeetsAll a (with_gate f gate).clauses → holds a (positive f.vars) ≡ value_of a gate
+pub gate-value : (f : Formula) (gate : Gate) (a : Valuation) → MeetsAll a (with_gate f gate).clauses → holds a (positive f.vars) ≡ value_of a gate
 gate-value f gate a met =
     value-met a (positive f.vars) gate (MeetsAll-literals a (literals_of (positive f.vars) gate) (MeetsAll-back a f.clauses (map clause_of (literals_of (positive f.vars) gate)) met))
 
@@ -108,7 +108,7 @@ literals_of-over n z (Majority x y c) own over =
     )
 
 -- a gate has one value under assignments that agree on its inputs
-pub value_of-agree : (n : ℕ) (a b : Assignment) → Agree n a b → (gate : Gate) → IsOver n (inputs_of gate) → value_of a gate ≡ value_of b gate
+pub value_of-agree : (n : ℕ) (a b : Valuation) → Agree n a b → (gate : Gate) → IsOver n (inputs_of gate) → value_of a gate ≡ value_of b gate
 value_of-agree n a b agree (And x y) over =
     ap₂ (λ p q. p && q) (holds-agree n a b agree x over.0) (holds-agree n a b agree y over.1.0)
 value_of-agree n a b agree (Xor x y) over =

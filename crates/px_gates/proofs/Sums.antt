@@ -1,7 +1,7 @@
 -- The sum circuit: its size, its variables, and that its bits and its carry spell the sum.
 use Rattle.std.proofs.Common.{◌≡◌, ℕ, zero, suc, ◌+◌, ◌*◌, ◌^◌, ◌<◌, ◌≤◌, Bool, true, false, not, ◌&&◌, ◌||◌, cond, List, [], ◌∷◌, length, refl, sym, ap, ap₂, ◌∙◌, subst, arith}
 use Rattle.std.proofs.Math.Nat.{pow-suc}
-use Rattle.px_chain.specs.Clause.{Assignment, Formula, IsOver, MeetsAll, holds, variable_of}
+use Rattle.px_chain.specs.Clause.{Valuation, Formula, IsOver, MeetsAll, holds, variable_of}
 use Rattle.px_chain.specs.Resolution.{positive}
 use Rattle.px_gates.specs.declared.gate.Gate.TheVariants.{Xor, Majority}
 use Rattle.px_gates.specs.Circuit.{IsCircuit, Output, with_circuit}
@@ -72,7 +72,7 @@ sum_step : (s m x y c rest xs ys p q top : ℕ) → s + 2 * m ≡ x + y + c → 
     → s + 2 * rest + q * top ≡ x + 2 * xs + (y + 2 * ys) + c
 sum_step s m x y c rest xs ys p q top e f g = rw g (omega arith)
 
-sum_from : (f : Formula) (n : ℕ) (xs ys : List ℕ) (carry : ℕ) (a : Assignment) → n ≡ f.vars → length xs ≡ length ys
+sum_from : (f : Formula) (n : ℕ) (xs ys : List ℕ) (carry : ℕ) (a : Valuation) → n ≡ f.vars → length xs ≡ length ys
     → MeetsAll a (with_circuit f (sum_circuit n xs ys carry)).clauses
     → spelled a (sum_bits n (length xs)) + 2 ^ length xs * bit (holds a (sum_carry n (length xs) carry)) ≡ spelled a xs + spelled a ys + bit (holds a carry)
 sum_from f n [] [] carry a same size met = omega arith
@@ -98,7 +98,7 @@ sum_from f n (x ∷ xs) (y ∷ ys) carry a same size met =
     (spelled a (sum_bits (n + 3) w)) (spelled a xs) (spelled a ys) (2 ^ w) (2 ^ suc w) (bit (holds a (sum_carry (n + 3) w (positive (n + 2))))) adder above (pow-suc 2 w)
 
 -- where an assignment meets the clauses of a sum, its bits and its carry spell the sum of the numbers and the carry
-pub sum-meets : (f : Formula) (xs ys : List ℕ) (carry : ℕ) (a : Assignment) → length xs ≡ length ys
+pub sum-meets : (f : Formula) (xs ys : List ℕ) (carry : ℕ) (a : Valuation) → length xs ≡ length ys
     → MeetsAll a (with_circuit f (sum_circuit f.vars xs ys carry)).clauses
     → spelled a (sum_bits f.vars (length xs)) + 2 ^ length xs * bit (holds a (sum_carry f.vars (length xs) carry)) ≡ spelled a xs + spelled a ys + bit (holds a carry)
 sum-meets f xs ys carry a size met = sum_from f f.vars xs ys carry a refl size met

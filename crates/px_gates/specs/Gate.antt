@@ -1,12 +1,12 @@
 -- Gates over literals: a gate takes the next variable, and its clauses say that this has the gate's value.
 use Rattle.std.specs.Prelude.{◌≡◌, ℕ, ◌+◌, ◌≤◌, List, [], ◌∷◌, ◌++◌, map, Bool, not, ◌&&◌, ◌||◌, if◌then◌else◌, slice_get, Some}
-use Rattle.px_chain.specs.Clause.{Assignment, Formula, IsFormula, clause_of, complement, holds}
+use Rattle.px_chain.specs.Clause.{Valuation, Formula, IsFormula, clause_of, complement, holds}
 use Rattle.px_chain.specs.Resolution.{positive}
 use Rattle.px_gates.specs.declared.gate.Gate.{Gate}
 use Rattle.px_gates.specs.declared.gate.Gate.TheVariants.{And, Xor, Mux, Majority}
 
 -- what a gate gives for the values of its inputs
-abbrev pub value_of : Assignment → Gate → Bool
+abbrev pub value_of : Valuation → Gate → Bool
 value_of a (And x y) = holds a x && holds a y
 value_of a (Xor x y) = if holds a x then not (holds a y) else holds a y
 value_of a (Mux choice x y) = if holds a choice then holds a x else holds a y
@@ -55,7 +55,7 @@ pub record IsOfGates (f : Formula) : Type 0 where
   pub first : slice_get f.clauses 0 ≡ Some (positive 0 ∷ [])
 
 -- the second formula has the variables and clauses of the first, in their places, and maybe more
-pub record Keeps (old new : Formula) : Type 0 where
+pub record KeepsFormula (old new : Formula) : Type 0 where
   pub vars : old.vars ≤ new.vars
   pub more : List (List ℕ)
   pub clauses : new.clauses ≡ old.clauses ++ more

@@ -2,7 +2,7 @@
 use px_chain::Lit;
 
 /// A gate over literals. Its own literal, z below, is that of the next variable, and these clauses, in this order, say that z has the gate's value.
-#[derive(Clone, Copy, Debug, PartialEq, Eq)]
+#[derive(Clone, Copy, PartialEq, Eq)]
 pub enum Gate {
     /// Both: (¬z x) (¬z y) (z ¬x ¬y).
     And { x: Lit, y: Lit },

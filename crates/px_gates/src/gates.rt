@@ -3,7 +3,7 @@ ghost use Rattle.std.specs.Prelude.{◌≡◌, ◌<◌, ◌^◌, [], ◌∷◌, 
 ghost use Rattle.std.specs.List.{AllByRecursion};
 ghost use Rattle.px_chain.specs.Clause.{IsOver};
 ghost use Rattle.px_chain.specs.Resolution.{positive};
-ghost use Rattle.px_gates.specs.Gate.{IsOfGates, Keeps, base, inputs_of, literals_of, with_clauses, with_gate, with_variable};
+ghost use Rattle.px_gates.specs.Gate.{IsOfGates, KeepsFormula, base, inputs_of, literals_of, with_clauses, with_gate, with_variable};
 ghost use Rattle.px_gates.specs.declared.gate.Gate.TheVariants.{And, Majority, Mux, Xor};
 
 use crate::gate::Gate;
@@ -57,7 +57,7 @@ impl Gates {
         requires over { IsOver self.old.vars (x ∷ y ∷ []) }
         ensures literal { IfOk result (λ z. z ≡ positive self.old.vars) }
         ensures made { OnOk result (self.new ≡ with_gate self.old (And x y)) }
-        ensures kept { OnErr result (Keeps self.old self.new) }
+        ensures kept { OnErr result (KeepsFormula self.old self.new) }
     {
         self.gate(Gate::And { x, y })
     }
@@ -68,7 +68,7 @@ impl Gates {
         requires over { IsOver self.old.vars (x ∷ y ∷ []) }
         ensures literal { IfOk result (λ z. z ≡ positive self.old.vars) }
         ensures made { OnOk result (self.new ≡ with_gate self.old (Xor x y)) }
-        ensures kept { OnErr result (Keeps self.old self.new) }
+        ensures kept { OnErr result (KeepsFormula self.old self.new) }
     {
         self.gate(Gate::Xor { x, y })
     }
@@ -79,7 +79,7 @@ impl Gates {
         requires over { IsOver self.old.vars (c ∷ x ∷ y ∷ []) }
         ensures literal { IfOk result (λ z. z ≡ positive self.old.vars) }
         ensures made { OnOk result (self.new ≡ with_gate self.old (Mux c x y)) }
-        ensures kept { OnErr result (Keeps self.old self.new) }
+        ensures kept { OnErr result (KeepsFormula self.old self.new) }
     {
         self.gate(Gate::Mux { choice: c, x, y })
     }
@@ -90,7 +90,7 @@ impl Gates {
         requires over { IsOver self.old.vars (x ∷ y ∷ c ∷ []) }
         ensures literal { IfOk result (λ z. z ≡ positive self.old.vars) }
         ensures made { OnOk result (self.new ≡ with_gate self.old (Majority x y c)) }
-        ensures kept { OnErr result (Keeps self.old self.new) }
+        ensures kept { OnErr result (KeepsFormula self.old self.new) }
     {
         self.gate(Gate::Majority { x, y, c })
     }
@@ -123,7 +123,7 @@ impl Gates {
         requires over { IsOver self.old.vars (inputs_of gate) }
         ensures literal { IfOk result (λ z. z ≡ positive self.old.vars) }
         ensures made { OnOk result (self.new ≡ with_gate self.old gate) }
-        ensures kept { OnErr result (Keeps self.old self.new) }
+        ensures kept { OnErr result (KeepsFormula self.old self.new) }
     {
         let z = self.variable();
         self.define(z, gate)?;
@@ -146,7 +146,7 @@ impl Gates {
         requires own { IsOver self.old.vars (z ∷ []) }
         requires over { IsOver self.old.vars (inputs_of gate) }
         ensures made { OnOk result (self.new ≡ with_clauses self.old (literals_of z gate)) }
-        ensures kept { OnErr result (Keeps self.old self.new) }
+        ensures kept { OnErr result (KeepsFormula self.old self.new) }
     {
         let not_z = complement(z);
         match gate {
@@ -182,7 +182,7 @@ impl Gates {
     fn add_all(&mut self, clauses: &[&[Lit]]) -> Result<(), AllocError>
         requires { AllByRecursion (λ clause. IsOver self.old.vars clause.now) clauses.now }
         ensures made { OnOk result (self.new ≡ with_clauses self.old (map (λ clause. clause.now) clauses.now)) }
-        ensures kept { OnErr result (Keeps self.old self.new) }
+        ensures kept { OnErr result (KeepsFormula self.old self.new) }
     {
         for clause in clauses {
             self.add(clause)?;
@@ -199,6 +199,3 @@ impl Gates {
         self.cnf.add(clause)
     }
 }
-
-#[cfg(test)]
-mod tests;

@@ -3,7 +3,7 @@ ghost use Rattle.std.specs.Prelude.{◌≡◌, ◌≤◌, ◌+◌, ◌*◌, ◌^
 ghost use Rattle.px_chain.specs.Clause.{IsOver};
 ghost use Rattle.px_chain.specs.Resolution.{positive};
 ghost use Rattle.px_gates.specs.Circuit.{with_circuit};
-ghost use Rattle.px_gates.specs.Gate.{Keeps};
+ghost use Rattle.px_gates.specs.Gate.{KeepsFormula};
 ghost use Rattle.px_gates.specs.Sum.{sum_bits, sum_carry, sum_circuit};
 
 use crate::gates::Gates;
@@ -11,7 +11,7 @@ use px_chain::Lit;
 use std::alloc::AllocError;
 
 /// The literals of a sum: its bits, that of lowest weight first, and the carry out of the highest.
-#[derive(Debug, Drop)]
+#[derive(Drop)]
 pub struct Sum {
     pub bits: Vec<Lit>,
     pub carry: Lit,
@@ -28,7 +28,7 @@ impl Gates {
         ensures bits { IfOk result (λ s. s.bits.items ≡ sum_bits self.old.vars (length x.now)) }
         ensures carry { IfOk result (λ s. s.carry ≡ sum_carry self.old.vars (length x.now) carry) }
         ensures made { OnOk result (self.new ≡ with_circuit self.old (sum_circuit self.old.vars x.now y.now carry)) }
-        ensures kept { OnErr result (Keeps self.old self.new) }
+        ensures kept { OnErr result (KeepsFormula self.old self.new) }
     {
         let mut bits = Vec::with_capacity(self.allocator(), x.len())?;
         let mut carry = carry;
@@ -47,7 +47,7 @@ impl Gates {
         ensures bit { IfOk result (λ r. r.0 ≡ positive (self.old.vars + 1)) }
         ensures carry { IfOk result (λ r. r.1 ≡ positive (self.old.vars + 2)) }
         ensures made { OnOk result (self.new ≡ with_circuit self.old (sum_circuit self.old.vars (x ∷ []) (y ∷ []) carry)) }
-        ensures kept { OnErr result (Keeps self.old self.new) }
+        ensures kept { OnErr result (KeepsFormula self.old self.new) }
     {
         let either = self.xor(x, y)?;
         let bit = self.xor(either, carry)?;
@@ -55,6 +55,3 @@ impl Gates {
         Ok((bit, above))
     }
 }
-
-#[cfg(test)]
-mod tests;

@@ -279,8 +279,8 @@ module _ {P W Q V : Type 0} (a : Algebra P W) (b : Algebra Q V) (pools : P → Q
       row_alike _ number offset next p q xs ys known po ar st = po
 
       -- a rest of the run in which alike scalars stay so
-      abbrev pub Keeps : (State P W → Outcome P W) → Type 0
-      Keeps go = (s : State P W) → Stays s.pool (go s).pool
+      abbrev pub KeepsPool : (State P W → Outcome P W) → Type 0
+      KeepsPool go = (s : State P W) → Stays s.pool (go s).pool
 
       kept : (p : P) → Stays p p
       kept p bits u v h = h
@@ -288,30 +288,30 @@ module _ {P W Q V : Type 0} (a : Algebra P W) (b : Algebra Q V) (pools : P → Q
       through : (p p' p'' : P) → Stays p p' → Stays p' p'' → Stays p p''
       through p p' p'' f g bits u v h = g bits u v (f bits u v h)
 
-      stays_branched : (number offset next target : ℕ) (xs : List W) (compare : Compare) (x x' : W) (p : P) (go : State P W → Outcome P W) → Keeps go → Stays p (behind a (branched a number offset next target xs compare x x' p) go).pool
+      stays_branched : (number offset next target : ℕ) (xs : List W) (compare : Compare) (x x' : W) (p : P) (go : State P W → Outcome P W) → KeepsPool go → Stays p (behind a (branched a number offset next target xs compare x x' p) go).pool
       stays_branched number offset next target xs compare x x' p go f = through p _ _ (stays_condition compare.test compare p x x') (f _)
 
-      stays_argument : (o : Option W) (next : ℕ) (xs : List W) (p : P) (go : State P W → Outcome P W) → Keeps go → Stays p (behind a (on_argument a o next xs p) go).pool
+      stays_argument : (o : Option W) (next : ℕ) (xs : List W) (p : P) (go : State P W → Outcome P W) → KeepsPool go → Stays p (behind a (on_argument a o next xs p) go).pool
       stays_argument None next xs p go f = kept p
       stays_argument (Some x) next xs p go f = f _
 
-      stays_move : (move : Move) (next : ℕ) (xs : List W) (p : P) (go : State P W → Outcome P W) → Keeps go → Stays p (behind a (on_move a move args next xs p) go).pool
+      stays_move : (move : Move) (next : ℕ) (xs : List W) (p : P) (go : State P W → Outcome P W) → KeepsPool go → Stays p (behind a (on_move a move args next xs p) go).pool
       stays_move (moves.Argument n) next xs p go f = stays_argument (slice_get args n) next xs p go f
       stays_move (moves.Constant wide pattern) next xs p go f = through p _ _ (law.stays p _ _) (f _)
       stays_move _ next xs p go f = kept p
 
-      stays_arithmetic : (o : Option Op) (next : ℕ) (xs : List W) (p : P) (go : State P W → Outcome P W) → Keeps go → Stays p (behind a (on_arithmetic a o next xs p) go).pool
+      stays_arithmetic : (o : Option Op) (next : ℕ) (xs : List W) (p : P) (go : State P W → Outcome P W) → KeepsPool go → Stays p (behind a (on_arithmetic a o next xs p) go).pool
       stays_arithmetic (Some o) next [] p go f = kept p
       stays_arithmetic (Some o) next (x' ∷ []) p go f = kept p
       stays_arithmetic (Some o) next (x' ∷ x ∷ xs) p go f = through p _ _ (law.stays p _ _) (f _)
       stays_arithmetic None next xs p go f = kept p
 
-      stays_truth : (number offset next target : ℕ) (compare : Compare) (xs : List W) (p : P) (go : State P W → Outcome P W) → Keeps go → Stays p (behind a (on_truth a number offset next target compare xs p) go).pool
+      stays_truth : (number offset next target : ℕ) (compare : Compare) (xs : List W) (p : P) (go : State P W → Outcome P W) → KeepsPool go → Stays p (behind a (on_truth a number offset next target compare xs p) go).pool
       stays_truth number offset next target compare [] p go f = kept p
       stays_truth number offset next target compare (x ∷ xs) p go f =
           let z = constant a p 0 in through p z.pool _ (law.stays p _ _) (stays_branched number offset next target xs compare x z.scalar z.pool go f)
 
-      stays_compare : (number offset next target : ℕ) (compare : Compare) (xs : List W) (p : P) (go : State P W → Outcome P W) → Keeps go → Stays p (behind a (on_compare a number offset next target compare xs p) go).pool
+      stays_compare : (number offset next target : ℕ) (compare : Compare) (xs : List W) (p : P) (go : State P W → Outcome P W) → KeepsPool go → Stays p (behind a (on_compare a number offset next target compare xs p) go).pool
       stays_compare number offset next target compare [] p go f = kept p
       stays_compare number offset next target compare (x' ∷ []) p go f = kept p
       stays_compare number offset next target compare (x' ∷ x ∷ xs) p go f = stays_branched number offset next target xs compare x x' p go f
@@ -321,7 +321,7 @@ module _ {P W Q V : Type 0} (a : Algebra P W) (b : Algebra Q V) (pools : P → Q
       stays_return (x ∷ xs) p go = kept p
 
       -- what was alike stays so in the last pool, whatever the run does: one case for each row
-      stays_row : (code : Code) (number offset next : ℕ) (xs : List W) (p : P) (go : State P W → Outcome P W) → Keeps go → Stays p (behind a (row a code number offset next args xs p) go).pool
+      stays_row : (code : Code) (number offset next : ℕ) (xs : List W) (p : P) (go : State P W → Outcome P W) → KeepsPool go → Stays p (behind a (row a code number offset next args xs p) go).pool
       stays_row (codes.Nop is_break) number offset next xs p go f = f _
       stays_row (codes.Move move) number offset next xs p go f = stays_move move next xs p go f
       stays_row (codes.Arithmetic operation) number offset next xs p go f = stays_arithmetic (operator_of operation) next xs p go f
@@ -332,16 +332,16 @@ module _ {P W Q V : Type 0} (a : Algebra P W) (b : Algebra Q V) (pools : P → Q
       stays_row (codes.Outside name opcode) number offset next xs p go f = kept p
       stays_row _ number offset next xs p go f = kept p
 
-      stays_step : (i : Option Instr) (number : ℕ) (s : State P W) (go : State P W → Outcome P W) → Keeps go → Stays s.pool (behind a (row_at a i number args s) go).pool
+      stays_step : (i : Option Instr) (number : ℕ) (s : State P W) (go : State P W → Outcome P W) → KeepsPool go → Stays s.pool (behind a (row_at a i number args s) go).pool
       stays_step None number s go f = kept s.pool
       stays_step (Some i) number s go f = stays_row i.code number i.offset i.next s.stack s.pool go f
 
-      pub stays_run : (number n : ℕ) → Keeps (run a n method number args)
+      pub stays_run : (number n : ℕ) → KeepsPool (run a n method number args)
       unfolding run
       stays_run number zero s = kept s.pool
       stays_run number (suc n) s = stays_step (instr_at method.code s.at) number s (run a n method number args) (stays_run number n)
 
-      moved : (m : Step P W) (m' : Step Q V) (go : State P W → Outcome P W) (go' : State Q V → Outcome Q V) → Keeps go
+      moved : (m : Step P W) (m' : Step Q V) (go : State P W → Outcome P W) (go' : State Q V → Outcome Q V) → KeepsPool go
           → ((s : State P W) (t : State Q V) → AlikeStates method.params args args' s t → AlikeRuns (go s) (go' t))
           → AlikeSteps method.params args args' m m' → AlikeRuns (behind a m go) (behind b m' go')
       moved (Goes s) (Goes t) go go' stays on h = on s t h

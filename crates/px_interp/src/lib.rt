@@ -6,8 +6,6 @@ mod machine;
 mod plain_run;
 mod rows;
 mod stack;
-#[cfg(test)]
-mod tests;
 
 pub use machine::{Seen, Traced, trace};
 pub use plain_run::{run, same_shape};

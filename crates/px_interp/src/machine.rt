@@ -15,7 +15,7 @@ use px_verify::instr_at;
 use std::alloc::{AllocError, Global};
 
 /// An event of a run, with what is known beside it.
-#[derive(Clone, Copy, Debug)]
+#[derive(Clone, Copy)]
 pub struct Seen<W> {
     pub event: Event,
     /// How far the run was from the other side: Xie, Tillmann, de Halleux and Schulte, DSN 2009.

@@ -13,7 +13,7 @@ use px_rank::gap;
 use px_words::Op;
 use std::alloc::{AllocError, Global};
 
-// What a step leads to: an offset, perhaps behind an event, or an end.
+/// What a step leads to: an offset, perhaps behind an event, or an end.
 #[derive(Drop)]
 pub enum Next<W> {
     Goes(u32),
@@ -21,7 +21,7 @@ pub enum Next<W> {
     Ends(End),
 }
 
-// Where an instruction stands: the number of its method, its offset, and the offset behind it.
+/// Where an instruction stands: the number of its method, its offset, and the offset behind it.
 #[derive(Clone, Copy)]
 pub struct Position {
     pub method: u32,
@@ -233,7 +233,7 @@ fn on_return<W: Worded>(stack: &mut Stack<W>) -> Next<W>
     Next::Ends(End::Returned(Value::Number(stack.pop().word())))
 }
 
-// Runs an instruction that finds what it needs.
+/// Runs an instruction that finds what it needs.
 pub fn act<W: Worded>(
     alloc: Global,
     instr: &Instr,

@@ -4,7 +4,7 @@ ghost use Rattle.std.specs.Prelude.{◌≡◌, ◌<◌, [], ◌∷◌, length, O
 use std::alloc::{AllocError, Global};
 use std::marker::Model;
 
-// A stack of scalars, seen as the list of them, its top first.
+/// A stack of scalars, seen as the list of them, its top first.
 #[derive(Drop)]
 pub struct Stack<W> {
     below: Vec<W>,
@@ -19,6 +19,7 @@ impl<W> Model for Stack<W> {
 }
 
 impl<W: Drop> Stack<W> {
+    /// A stack without values.
     pub fn new(alloc: Global) -> Stack<W>
         ensures { result ≡ [] }
     {
@@ -27,6 +28,7 @@ impl<W: Drop> Stack<W> {
         }
     }
 
+    /// Puts a value on top.
     pub fn push(&mut self, x: W) -> Result<(), AllocError>
         ensures { OnOk result (self.new ≡ x ∷ self.old) }
     {
@@ -34,6 +36,7 @@ impl<W: Drop> Stack<W> {
         Ok(())
     }
 
+    /// Takes the value from the top. There is one.
     pub fn pop(&mut self) -> W
         requires { 0 < length self.old }
         ensures { self.old ≡ result ∷ self.new }

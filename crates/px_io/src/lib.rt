@@ -14,6 +14,3 @@ pub use real::{FileShelf, StdSink};
 pub use shelf::{FetchCounts, FetchFault, Fetched, Shelf};
 pub use sink::{Failed, Sink, Stopped, put_all};
 pub use word::Word;
-
-#[cfg(test)]
-mod tests;

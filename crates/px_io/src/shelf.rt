@@ -5,7 +5,7 @@ ghost use Rattle.px_io.specs.Counts.{Rose};
 use std::alloc::{AllocError, AllocFailed, Global};
 
 /// What a fetch found.
-#[derive(Debug, PartialEq, Eq, Drop)]
+#[derive(PartialEq, Eq, Drop)]
 pub enum Fetched {
     /// The whole content of the file.
     Bytes(Vec<u8>),
@@ -16,7 +16,7 @@ pub enum Fetched {
 }
 
 /// Why a fetch couldn't tell what is there.
-#[derive(Clone, Copy, Debug, PartialEq, Eq)]
+#[derive(Clone, Copy, PartialEq, Eq)]
 pub enum FetchFault {
     /// There was no memory for the content.
     Memory,
@@ -45,7 +45,7 @@ impl<T: Drop> From<AllocFailed<T>> for FetchFault {
 }
 
 /// What a shelf counts. A count that reaches the end of its type stays there.
-#[derive(Clone, Copy, Debug, Default, PartialEq, Eq)]
+#[derive(Clone, Copy, Default, PartialEq, Eq)]
 pub struct FetchCounts {
     /// How many fetches failed.
     pub faults: u64,

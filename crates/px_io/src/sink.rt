@@ -4,11 +4,11 @@ ghost use Rattle.px_io.specs.Counts.{Rose};
 ghost use Rattle.px_io.specs.Puts.{extended, Puts};
 
 /// A write failed.
-#[derive(Clone, Copy, Debug, PartialEq, Eq)]
+#[derive(Clone, Copy, PartialEq, Eq)]
 pub struct Failed;
 
 /// A text was written in part, and then a write failed.
-#[derive(Clone, Copy, Debug, PartialEq, Eq)]
+#[derive(Clone, Copy, PartialEq, Eq)]
 pub struct Stopped;
 
 /// A device that takes bytes.

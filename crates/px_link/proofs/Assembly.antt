@@ -4,8 +4,8 @@ use Rattle.std.specs.List.{AllByRecursion}
 use Rattle.px_pe.specs.Image as pe
 use Rattle.px_program.specs.Formed.{AreTypes, IsWellFormed}
 use Rattle.px_program.specs.declared.program.Program.{Program}
-use Rattle.px_reach.specs.Met.{IsOwned}
-use Rattle.px_reach.proofs.Reaching.{calls_met, first_start, overriders_met, starts_met}
+use Rattle.px_link_reach.specs.Met.{IsOwned}
+use Rattle.px_link_reach.proofs.Reaching.{calls_met, first_start, overriders_met, starts_met}
 use Rattle.px_tables.specs.Metadata.{View}
 use Rattle.px_link.specs.Link.{Reads, arguments_of, maker_of, rows_of, starts_of}
 use Rattle.px_link.proofs.LinkedEntry.{reads_few}

@@ -7,8 +7,8 @@ use Rattle.px_meta.specs.Faults.{Bases, IsFaultless}
 use Rattle.px_meta.specs.Rows.{IsRow, cell, count_of, some_row, type_defs}
 use Rattle.px_meta.specs.declared.fault.MetaKind.TheVariants.{CycleOfBases}
 use Rattle.px_tables.specs.Metadata.{View}
-use Rattle.px_types.proofs.Ends.{LeadsBelow, fewer_left, has_end, steps_left}
-use Rattle.px_types.proofs.There.{row_there}
+use Rattle.px_link_types.proofs.Ends.{LeadsBelow, fewer_left, has_end, steps_left}
+use Rattle.px_link_types.proofs.There.{row_there}
 use Rattle.px_link.specs.Parts.{IsLine}
 
 pub base_is_row : (v : View) (row base : ℕ) → base_in v row ≡ Some base → IsRow v type_defs base

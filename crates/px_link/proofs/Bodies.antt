@@ -10,8 +10,8 @@ use Rattle.px_code.specs.Body as raw
 use Rattle.px_program.specs.Formed as made
 use Rattle.px_program.specs.declared.instr.Instr.{Instr}
 use Rattle.px_program.specs.declared.program.Program.{Program}
-use Rattle.px_methods.specs.Methods.{clause_of}
-use Rattle.px_opcodes.proofs.Fitting.{Fits}
+use Rattle.px_link_methods.specs.Methods.{clause_of}
+use Rattle.px_link_opcodes.proofs.Fitting.{Fits}
 
 -- an instruction stands where a raw one does
 pub record IsPlacedAs (x : RawInstr) (y : Instr) : Type 0 where

@@ -10,11 +10,11 @@ use Rattle.std.specs.Option.{is_some}
 use Rattle.px_meta.specs.Members.{IsMethod, owner_of}
 use Rattle.px_meta.specs.Rows.{IsRow, cell, count_of, methods, rows_in, text_at, type_defs}
 use Rattle.px_meta.specs.declared.meta.MetaMethod.{MetaMethod}
-use Rattle.px_methods.specs.Methods.{sig_at}
-use Rattle.px_operands.specs.Operands.{is_there}
-use Rattle.px_reach.specs.Met.{IsOwned}
+use Rattle.px_link_methods.specs.Methods.{sig_at}
+use Rattle.px_link_tokens.specs.Operands.{is_there}
+use Rattle.px_link_reach.specs.Met.{IsOwned}
 use Rattle.px_tables.specs.Metadata.{View}
-use Rattle.px_types.specs.Keys.{is_class}
+use Rattle.px_link_types.specs.Keys.{is_class}
 use Rattle.px_link.specs.Link.{HasBadParameter, HasNoBody, HasNoMaker, IsFound, first_unfit, is_maker, maker_in, maker_of, rows_of, takes_nothing}
 use Rattle.px_link.specs.Names.{IsOnly}
 use Rattle.px_link.specs.Parts.{IsEntryOf, maker_for}

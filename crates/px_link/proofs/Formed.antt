@@ -12,10 +12,10 @@ use Rattle.px_program.specs.declared.program.Place.{Place}
 use Rattle.px_program.specs.declared.program.Program.{Program}
 use Rattle.px_program.specs.Formed as made
 use Rattle.px_program.proofs.Types.{each-map}
-use Rattle.px_opcodes.specs.Opcodes.{plain_code}
+use Rattle.px_link_opcodes.specs.Opcodes.{plain_code}
 use Rattle.px_link.specs.Raw.{instr_of, method_of}
-use Rattle.px_methods.specs.Methods.{clause_of}
-use Rattle.px_opcodes.proofs.Fitting.{Fits, known_fits, plain_fits}
+use Rattle.px_link_methods.specs.Methods.{clause_of}
+use Rattle.px_link_opcodes.proofs.Fitting.{Fits, known_fits, plain_fits}
 use Rattle.px_link.proofs.Bodies.{HasStarts, IsPlacedAs, all_fit, all_ranges, all_starts, follow}
 
 placed : (xs : List RawInstr) → AllZip IsPlacedAs xs (map instr_of xs)

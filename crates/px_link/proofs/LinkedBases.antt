@@ -7,22 +7,22 @@ use Rattle.std.proofs.lemmas.Option.{same_Some}
 use Rattle.px_meta.specs.Chains.{GoesOn, IsChain, base_in as base_row}
 use Rattle.px_meta.specs.Overriding.{Derives, Directly, Through}
 use Rattle.px_meta.specs.Rows.{count_of, is_in, some_row, type_defs}
-use Rattle.px_methods.specs.Codes.{owner_number}
+use Rattle.px_link_methods.specs.Codes.{owner_number}
 use Rattle.px_program.specs.Formed.{DerivesFrom, IsKindOf, base_in, base_of}
 use Rattle.px_program.specs.declared.program.TypeInfo.{TypeInfo}
 use Rattle.px_program.proofs.Types.{each-append, each_at}
 use Rattle.px_tables.specs.Metadata.{View}
-use Rattle.px_types.specs.declared.key.Key.{Key}
-use Rattle.px_types.specs.declared.key.Leaf.{Leaf}
-use Rattle.px_types.specs.declared.key.Leaf.TheVariants.{Defined, Library}
-use Rattle.px_types.specs.Infos.{number_in}
-use Rattle.px_types.specs.Keys.{alone, base_index, library_ref}
-use Rattle.px_types.specs.Making.{AreNumberedIn}
-use Rattle.px_types.specs.Numbers.{Ends, Meets, Numbers, Passes, base_in_library, base_of as base_leaf, field_key, has_key, instance_fields, is_integer, is_numbered, key_eq, leaf_keys, library_keys, number_of, own_types, static_fields}
-use Rattle.px_types.proofs.Closed.{each-front, grows}
-use Rattle.px_types.proofs.Formed.{has_by}
-use Rattle.px_types.proofs.Keyed.{at_number, key_eq-refl, key_same}
-use Rattle.px_types.proofs.Known.{has_at}
+use Rattle.px_link_types.specs.declared.key.Key.{Key}
+use Rattle.px_link_types.specs.declared.key.Leaf.{Leaf}
+use Rattle.px_link_types.specs.declared.key.Leaf.TheVariants.{Defined, Library}
+use Rattle.px_link_types.specs.Infos.{number_in}
+use Rattle.px_link_types.specs.Keys.{alone, base_index, library_ref}
+use Rattle.px_link_types.specs.Making.{AreNumberedIn}
+use Rattle.px_link_types.specs.Numbers.{Ends, Meets, Numbers, Passes, base_in_library, base_leaf, field_key, has_key, instance_fields, is_integer, is_numbered, key_eq, leaf_keys, library_keys, number_of, own_types, static_fields}
+use Rattle.px_link_types.proofs.Closed.{each-front, grows}
+use Rattle.px_link_types.proofs.Formed.{has_by}
+use Rattle.px_link_types.proofs.Keyed.{at_number, key_eq-refl, key_same}
+use Rattle.px_link_types.proofs.Known.{has_at}
 use Rattle.px_link.proofs.LinkedTypes.{HaveTypes, defined_type}
 
 -- NO KEY HAS TWO NUMBERS

@@ -9,12 +9,12 @@ use Rattle.px_blobs.specs.Items.{blob_at}
 use Rattle.px_meta.specs.Members.{field_sig_at, method_sig_at, owner_of}
 use Rattle.px_meta.specs.Rows.{IsRow, cell, fields, member_refs, methods, some_row}
 use Rattle.px_meta.specs.Tokens.{row_in, table_in}
-use Rattle.px_methods.specs.Codes.{Numbering, code_with, field_among}
-use Rattle.px_methods.specs.Methods.{sig_at}
-use Rattle.px_opcodes.proofs.Fitting.{Fits}
-use Rattle.px_operands.specs.Operands.{Called, CalledVirtually, Made, Way, ◌else◌, callee_at, check_in, check_of, check_operand, constructor_of, constructor_with, each_known, element_at, field_at, field_in, has_body, has_initialiser, is_bool, is_field, is_owned, is_run, is_void, library_by, library_constructor, library_in, may_be_called, may_take, member_name, method_by, method_in, operand_of, parent_ref, read_form, reference_in, text_at_token, text_of, type_at, type_operand, units_of, virtual_at}
-use Rattle.px_operands.specs.declared.operand.Operand.{Operand}
-use Rattle.px_operands.specs.declared.operand.Operand.TheVariants as operand
+use Rattle.px_link_methods.specs.Codes.{Numbering, code_with, field_among}
+use Rattle.px_link_methods.specs.Methods.{sig_at}
+use Rattle.px_link_opcodes.proofs.Fitting.{Fits}
+use Rattle.px_link_tokens.specs.Operands.{Called, CalledVirtually, Made, Way, ◌else◌, callee_at, check_in, check_of, check_operand, constructor_of, constructor_with, each_known, element_at, field_at, field_in, has_body, has_initialiser, is_bool, is_field, is_owned, is_run, is_void, library_by, library_constructor, library_in, may_be_called, may_take, member_name, method_by, method_in, operand_of, parent_ref, read_form, reference_in, text_at_token, text_of, type_at, type_operand, units_of, virtual_at}
+use Rattle.px_link_tokens.specs.declared.operand.Operand.{Operand}
+use Rattle.px_link_tokens.specs.declared.operand.Operand.TheVariants as operand
 use Rattle.px_pe.specs.Image as pe
 use Rattle.px_program.specs.Formed.{FitsPlace, HasField}
 use Rattle.px_program.specs.declared.instr.Callee.TheVariants as callees
@@ -23,16 +23,16 @@ use Rattle.px_program.specs.declared.instr.Code.TheVariants as code
 use Rattle.px_program.specs.declared.program.Program.{Program}
 use Rattle.px_sig.specs.declared.sig.MethodSig.{MethodSig}
 use Rattle.px_tables.specs.Metadata.{View}
-use Rattle.px_types.specs.declared.key.Key.{Key}
-use Rattle.px_types.specs.declared.key.Leaf.TheVariants.{Defined}
-use Rattle.px_types.specs.Keys.{alone, array_in}
-use Rattle.px_types.specs.Making.{AreNumberedIn}
-use Rattle.px_types.specs.Numbers.{field_key, instance_fields, is_field_of, is_integer, is_integer_leaf, is_static_field, place_in, static_fields}
-use Rattle.px_types.specs.Parts.{is_kind}
-use Rattle.px_types.proofs.Formed.{has_by, place_fits}
-use Rattle.px_types.proofs.There.{row_there}
+use Rattle.px_link_types.specs.declared.key.Key.{Key}
+use Rattle.px_link_types.specs.declared.key.Leaf.TheVariants.{Defined}
+use Rattle.px_link_types.specs.Keys.{alone, array_in}
+use Rattle.px_link_types.specs.Making.{AreNumberedIn}
+use Rattle.px_link_types.specs.Numbers.{field_key, instance_fields, is_field_of, is_integer, is_integer_leaf, is_static_field, place_in, static_fields}
+use Rattle.px_link_types.specs.Parts.{is_kind}
+use Rattle.px_link_types.proofs.Formed.{has_by, place_fits}
+use Rattle.px_link_types.proofs.There.{row_there}
 use Rattle.px_link.proofs.LinkedTypes.{HasDefined, defined_type, number_fits}
-use Rattle.px_methods.proofs.RowPlaces.{in_instance_fields, in_static_fields, place_below}
+use Rattle.px_link_methods.proofs.RowPlaces.{in_instance_fields, in_static_fields, place_below}
 use Rattle.px_link.proofs.LinkedOperands.{HasLinked, HasNumbered, IsMet, IsType, array_type, has_code, is_instance, no_return, some_body, type_type}
 
 module _ (v : View) (image : pe.View) (n : Numbering) (program : Program) (has : HasNumbered v image n program) (p : ℕ → Bool) where

@@ -8,24 +8,24 @@ use Rattle.std.proofs.lemmas.List.{length-map}
 use Rattle.std.proofs.lemmas.Option.{same_Some}
 use Rattle.px_meta.specs.Members.{owner_of}
 use Rattle.px_meta.specs.Rows.{cell, is_in, methods, rows_in, text_at}
-use Rattle.px_methods.specs.Codes.{Numbering, owner_number, place_of}
-use Rattle.px_methods.specs.Methods.{IsMethod, place_of_type, receiver, sig_at}
-use Rattle.px_operands.specs.Operands.{is_there, is_void}
+use Rattle.px_link_methods.specs.Codes.{Numbering, owner_number, place_of}
+use Rattle.px_link_methods.specs.Methods.{IsMethod, place_of_type, receiver, sig_at}
+use Rattle.px_link_tokens.specs.Operands.{is_there, is_void}
 use Rattle.px_pe.specs.Image as pe
 use Rattle.px_program.specs.Formed.{CanBegin, HasMethod, IsMaker, MadeBy, entry_of, method_at}
 use Rattle.px_program.specs.declared.program.Method.{Method}
 use Rattle.px_program.specs.declared.program.Place.{Place}
 use Rattle.px_program.specs.declared.program.Place.TheVariants as places
 use Rattle.px_program.specs.declared.program.Program.{Program}
-use Rattle.px_reach.specs.declared.body.Whole.{Whole}
+use Rattle.px_link_reach.specs.declared.body.Whole.{Whole}
 use Rattle.px_sig.specs.declared.sig.MethodSig.{MethodSig}
 use Rattle.px_sig.specs.declared.sig.SigType.{SigType}
 use Rattle.px_tables.specs.Metadata.{View}
-use Rattle.px_types.specs.Keys.{is_class}
+use Rattle.px_link_types.specs.Keys.{is_class}
 use Rattle.px_link.specs.Link.{Reads, arguments_in, arguments_of, is_argument, is_maker, is_nil, maker_in, maker_number, rows_of, starts_of, takes_nothing, unfit_from}
 use Rattle.px_link.proofs.LinkedOperands.{HasLinked, HasNumbered, has_code, is_instance, no_return, same_sig}
 use Rattle.px_link.proofs.LinkedProgram.{has_numbered, numbering_of}
-use Rattle.px_methods.proofs.RowPlaces.{found_passes, in_at}
+use Rattle.px_link_methods.proofs.RowPlaces.{found_passes, in_at}
 
 -- PARAMETERS
 

@@ -5,19 +5,19 @@ use Rattle.std.specs.List.{AllByRecursion, AllZip, flat_map, list_all}
 use Rattle.std.proofs.lemmas.Bool.{cases_eq, cond-true, cond_both, eq-eqb, not-false}
 use Rattle.std.proofs.lemmas.List.{length-map}
 use Rattle.px_code.specs.Body.{IsFormed as IsFormedBody}
-use Rattle.px_code.specs.Reading.{Fault}
+use Rattle.px_code.specs.Reading.{PlacedFault}
 use Rattle.px_code.specs.declared.body.Body.{Body}
 use Rattle.px_code.specs.declared.body.RawClause.{RawClause}
 use Rattle.px_code.specs.declared.body.RawInstr.{RawInstr}
 use Rattle.px_meta.specs.Members.{owner_of}
 use Rattle.px_meta.specs.Rows.{cell, is_in, methods}
-use Rattle.px_methods.specs.Codes.{IsCode, IsInstr, IsTokenCode, Numbering, owner_number}
-use Rattle.px_methods.specs.Methods.{IsMethod, caught, class_number, clause_of, keys_of_body, keys_of_clause, keys_of_instr, keys_of_sig, linked_clause, met_by, place_of_type, receiver, return_place, sig_at}
-use Rattle.px_methods.specs.Slots.{Forms, forms_of, is_barred}
-use Rattle.px_opcodes.proofs.Fitting.{Fits, FitsIf, plain_fits}
-use Rattle.px_opcodes.specs.Opcodes.{outside, plain_code}
-use Rattle.px_operands.specs.Operands.{is_void}
-use Rattle.px_operands.specs.declared.operand.Operand.{Operand}
+use Rattle.px_link_methods.specs.Codes.{IsCode, IsInstr, IsTokenCode, Numbering, owner_number}
+use Rattle.px_link_methods.specs.Methods.{IsMethod, caught, class_number, clause_of, keys_of_body, keys_of_clause, keys_of_instr, keys_of_sig, linked_clause, met_by, place_of_type, receiver, return_place, sig_at}
+use Rattle.px_link_methods.specs.Slots.{Forms, forms_of, is_barred}
+use Rattle.px_link_opcodes.proofs.Fitting.{Fits, FitsIf, plain_fits}
+use Rattle.px_link_opcodes.specs.Opcodes.{outside, plain_code}
+use Rattle.px_link_tokens.specs.Operands.{is_void}
+use Rattle.px_link_tokens.specs.declared.operand.Operand.{Operand}
 use Rattle.px_pe.specs.Image as pe
 use Rattle.px_program.specs.Formed as made
 use Rattle.px_program.specs.declared.instr.Code.{Code}
@@ -26,24 +26,24 @@ use Rattle.px_program.specs.declared.program.Method.{Method}
 use Rattle.px_program.specs.declared.program.Place.{Place}
 use Rattle.px_program.specs.declared.program.Program.{Program}
 use Rattle.px_program.proofs.Types.{each-append}
-use Rattle.px_reach.specs.Bodies.{no_body, whole_at}
-use Rattle.px_reach.specs.Met.{IsBody, operand_at, target_of}
-use Rattle.px_reach.specs.declared.body.Whole.{Whole}
+use Rattle.px_link_reach.specs.Bodies.{no_body, whole_at}
+use Rattle.px_link_reach.specs.Met.{IsBody, operand_at, target_of}
+use Rattle.px_link_reach.specs.declared.body.Whole.{Whole}
 use Rattle.px_sig.specs.declared.sig.SigType.{SigType}
 use Rattle.px_tables.specs.Metadata.{View}
-use Rattle.px_types.specs.declared.key.Key.{Key}
-use Rattle.px_types.specs.declared.key.Leaf.{Leaf}
-use Rattle.px_types.specs.declared.key.Leaf.TheVariants.{Defined}
-use Rattle.px_types.specs.Keys.{alone, class_of, place_key}
-use Rattle.px_types.specs.Making.{AreNumberedIn}
-use Rattle.px_types.specs.Numbers.{is_numbered, leaf_keys}
-use Rattle.px_types.proofs.Closed.{each-back, each-front}
-use Rattle.px_types.proofs.Formed.{place_fits}
+use Rattle.px_link_types.specs.declared.key.Key.{Key}
+use Rattle.px_link_types.specs.declared.key.Leaf.{Leaf}
+use Rattle.px_link_types.specs.declared.key.Leaf.TheVariants.{Defined}
+use Rattle.px_link_types.specs.Keys.{alone, class_of, place_key}
+use Rattle.px_link_types.specs.Making.{AreNumberedIn}
+use Rattle.px_link_types.specs.Numbers.{is_numbered, leaf_keys}
+use Rattle.px_link_types.proofs.Closed.{each-back, each-front}
+use Rattle.px_link_types.proofs.Formed.{place_fits}
 use Rattle.px_link.proofs.Bodies.{HasStarts, IsPlacedAs, all_fit, all_ranges, all_starts, follow}
 use Rattle.px_link.proofs.LinkedCodes.{FitsWith, operand_fits}
 use Rattle.px_link.proofs.LinkedOperands.{HasNumbered, IsClass, IsMet, class_class}
 use Rattle.px_link.proofs.LinkedTypes.{number_fits}
-use Rattle.px_methods.proofs.RowPlaces.{each_of_flat_map}
+use Rattle.px_link_methods.proofs.RowPlaces.{each_of_flat_map}
 
 -- the rows that an instruction calls are among those of the program
 abbrev pub HasTargets : View → Numbering → RawInstr → Type 0
@@ -85,7 +85,7 @@ leads_formed class_of body ys placed formed = record {
 read_empty : (v : View) (image : pe.View) (row : ℕ) (whole : Whole) → IsBody v image row whole → cell v methods row 0 ≡ 0 → no_body ≡ whole
 read_empty v image row whole body none =
     let read : whole_at v image row ≡ Ok no_body = cond-true (cell v methods row 0 == 0) (Ok no_body) _ (eq-eqb (cell v methods row 0) 0 none) in
-    let same : ◌≡◌ {A = Result Whole Fault} (Ok no_body) (Ok whole) = sym read ∙ body.read in
+    let same : ◌≡◌ {A = Result Whole PlacedFault} (Ok no_body) (Ok whole) = sym read ∙ body.read in
     cc
 
 leads_well : (v : View) (image : pe.View) (row : ℕ) (whole : Whole) (class_of : RawClause → Option ℕ) (ys : List Instr) → IsBody v image row whole → AllZip IsPlacedAs whole.body.code ys → LeadsWell class_of whole.body ys

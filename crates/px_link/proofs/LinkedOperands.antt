@@ -6,26 +6,26 @@ use Rattle.std.proofs.lemmas.Bool.{cond_both, eqb-false, not-true}
 use Rattle.std.proofs.lemmas.Option.{same_Some}
 use Rattle.px_meta.specs.Rows.{cell, is_in, methods, some_row, type_defs, type_refs, type_specs}
 use Rattle.px_meta.specs.Tokens.{row_in, table_in}
-use Rattle.px_methods.specs.Codes.{Numbering, place_of}
-use Rattle.px_methods.specs.Methods.{IsMethod, keys_of_operand, return_place, sig_at}
-use Rattle.px_operands.specs.Operands.{has_body, is_void, key_alone, spec_in, type_at, type_only}
-use Rattle.px_operands.specs.declared.operand.Operand.{Operand}
+use Rattle.px_link_methods.specs.Codes.{Numbering, place_of}
+use Rattle.px_link_methods.specs.Methods.{IsMethod, keys_of_operand, return_place, sig_at}
+use Rattle.px_link_tokens.specs.Operands.{has_body, is_void, key_alone, spec_in, type_at, type_only}
+use Rattle.px_link_tokens.specs.declared.operand.Operand.{Operand}
 use Rattle.px_pe.specs.Image as pe
 use Rattle.px_program.specs.Formed.{HasCode, IsInstance, has_element, method_at}
 use Rattle.px_program.specs.declared.program.Method.{Method}
 use Rattle.px_program.specs.declared.program.Program.{Program}
 use Rattle.px_program.specs.declared.program.TypeInfo.{TypeInfo}
-use Rattle.px_reach.specs.Met.{IsBody, method_in as methods_in}
-use Rattle.px_reach.specs.declared.body.Whole.{Whole}
+use Rattle.px_link_reach.specs.Met.{IsBody, method_in as methods_in}
+use Rattle.px_link_reach.specs.declared.body.Whole.{Whole}
 use Rattle.px_sig.specs.declared.sig.MethodSig.{MethodSig}
 use Rattle.px_tables.specs.Metadata.{View}
-use Rattle.px_types.specs.declared.key.Key.{Key}
-use Rattle.px_types.specs.declared.key.Leaf.{Leaf}
-use Rattle.px_types.specs.declared.key.Leaf.TheVariants.{Defined}
-use Rattle.px_types.specs.Infos.{IsInfoOf}
-use Rattle.px_types.specs.Keys.{class_of, defined_in, is_class, library_in as library_leaf_in, library_leaf, library_ref}
-use Rattle.px_types.specs.Making.{AreNumberedIn}
-use Rattle.px_types.specs.Numbers.{has_key, is_integer, is_integer_leaf, number_of}
+use Rattle.px_link_types.specs.declared.key.Key.{Key}
+use Rattle.px_link_types.specs.declared.key.Leaf.{Leaf}
+use Rattle.px_link_types.specs.declared.key.Leaf.TheVariants.{Defined}
+use Rattle.px_link_types.specs.Infos.{IsInfoOf}
+use Rattle.px_link_types.specs.Keys.{class_of, defined_in, is_class, library_in as library_leaf_in, library_leaf, library_ref}
+use Rattle.px_link_types.specs.Making.{AreNumberedIn}
+use Rattle.px_link_types.specs.Numbers.{has_key, is_integer, is_integer_leaf, number_of}
 use Rattle.px_link.proofs.LinkedTypes.{HaveTypes, StandsFor, type_of}
 
 -- WHAT A PROGRAM HAS

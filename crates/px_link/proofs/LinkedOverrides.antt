@@ -8,30 +8,30 @@ use Rattle.px_meta.specs.Chains.{IsChain, base_in as base_row}
 use Rattle.px_meta.specs.Members.{owner_of}
 use Rattle.px_meta.specs.Overriding.{Behind, Derives, Directly, Here, IsNearest, MayOverride, Overrides as OverridesInTables, Through}
 use Rattle.px_meta.specs.Rows.{IsRow, is_in, methods}
-use Rattle.px_methods.specs.Codes.{owner_number, place_of}
-use Rattle.px_methods.specs.Methods.{return_place, sig_at}
+use Rattle.px_link_methods.specs.Codes.{owner_number, place_of}
+use Rattle.px_link_methods.specs.Methods.{return_place, sig_at}
 use Rattle.px_pe.specs.Image as pe
 use Rattle.px_program.specs.Formed.{DerivesFrom, IsKindOf, Overrides}
 use Rattle.px_program.specs.declared.program.Program.{Program}
 use Rattle.px_program.specs.declared.program.TypeInfo.{TypeInfo}
-use Rattle.px_reach.specs.Met.{IsOwned, with_overriders}
-use Rattle.px_reach.specs.Overriders.{AreLists, AreOverriders, Directly as Once, OverridesThrough, Through as On, overriders_in}
+use Rattle.px_link_reach.specs.Met.{IsOwned, with_overriders}
+use Rattle.px_link_reach.specs.Overriders.{AreLists, AreOverriders, Directly as Once, OverridesThrough, Through as On, overriders_in}
 use Rattle.px_sig.specs.declared.sig.MethodSig.{MethodSig}
 use Rattle.px_tables.specs.Metadata.{View}
-use Rattle.px_types.specs.declared.key.Key.{Key}
-use Rattle.px_types.specs.declared.key.Leaf.{Leaf}
-use Rattle.px_types.specs.declared.key.Leaf.TheVariants.{Number, Library, Defined}
-use Rattle.px_types.specs.Keys.{alone}
-use Rattle.px_types.specs.Numbers.{has_key}
-use Rattle.px_types.proofs.Formed.{at_place}
-use Rattle.px_types.proofs.Known.{has_at}
+use Rattle.px_link_types.specs.declared.key.Key.{Key}
+use Rattle.px_link_types.specs.declared.key.Leaf.{Leaf}
+use Rattle.px_link_types.specs.declared.key.Leaf.TheVariants.{Number, Library, Defined}
+use Rattle.px_link_types.specs.Keys.{alone}
+use Rattle.px_link_types.specs.Numbers.{has_key}
+use Rattle.px_link_types.proofs.Formed.{at_place}
+use Rattle.px_link_types.proofs.Known.{has_at}
 use Rattle.px_link.specs.Link.{Reads}
 use Rattle.px_link.specs.Overrides.{AreOverrides, HasOverrides, IsLinkedType, first_of, nearest, or_later, pair_of}
 use Rattle.px_link.proofs.LinkedBases.{all_apart, derives_from, kind_of, number_at}
 use Rattle.px_link.proofs.LinkedEntry.{instance_params}
 use Rattle.px_link.proofs.LinkedOperands.{HasLinked, is_instance, same_sig}
 use Rattle.px_link.proofs.LinkedProgram.{has_numbered, numbering_of, owner_numbered}
-use Rattle.px_methods.proofs.RowPlaces.{at_index, each_led_to, found_in, found_passes, one_of_each}
+use Rattle.px_link_methods.proofs.RowPlaces.{at_index, each_led_to, found_in, found_passes, one_of_each}
 
 -- OVERRIDING
 

@@ -8,29 +8,29 @@ use Rattle.std.proofs.lemmas.Slice.Zip.{AllZip-long, firsts-zip}
 use Rattle.px_code.specs.declared.body.RawInstr.{RawInstr}
 use Rattle.px_meta.specs.Members.{owner_of}
 use Rattle.px_meta.specs.Rows.{is_in, methods}
-use Rattle.px_methods.specs.Codes.{Numbering, place_of}
-use Rattle.px_methods.specs.Methods.{AreMethods, IsMethod, met_by}
+use Rattle.px_link_methods.specs.Codes.{Numbering, place_of}
+use Rattle.px_link_methods.specs.Methods.{AreMethods, IsMethod, met_by}
 use Rattle.px_pe.specs.Image as pe
 use Rattle.px_program.specs.Formed.{AreTypes, CanBegin, HasMethod, IsFormedIn, IsWellFormed, Overrides}
 use Rattle.px_program.specs.declared.program.Method.{Method}
 use Rattle.px_program.specs.declared.program.Program.{Program}
 use Rattle.px_program.specs.declared.program.TypeInfo.{TypeInfo}
 use Rattle.px_program.proofs.Types.{each-weaken, each_at}
-use Rattle.px_reach.specs.Bodies.{whole_at}
-use Rattle.px_reach.specs.Met.{IsBody, calls_at, calls_of, in_body, target_of, with_overriders}
-use Rattle.px_reach.specs.declared.body.Whole.{Whole}
+use Rattle.px_link_reach.specs.Bodies.{whole_at}
+use Rattle.px_link_reach.specs.Met.{IsBody, calls_at, calls_of, in_body, target_of, with_overriders}
+use Rattle.px_link_reach.specs.declared.body.Whole.{Whole}
 use Rattle.px_tables.specs.Metadata.{View}
-use Rattle.px_types.specs.declared.key.Leaf.TheVariants.{Defined}
-use Rattle.px_types.specs.Keys.{alone}
-use Rattle.px_types.specs.Making.{AreNumberedIn}
-use Rattle.px_types.specs.Numbers.{has_key, is_numbered}
-use Rattle.px_types.proofs.Closed.{grows}
-use Rattle.px_types.proofs.Formed.{has_by}
+use Rattle.px_link_types.specs.declared.key.Leaf.TheVariants.{Defined}
+use Rattle.px_link_types.specs.Keys.{alone}
+use Rattle.px_link_types.specs.Making.{AreNumberedIn}
+use Rattle.px_link_types.specs.Numbers.{has_key, is_numbered}
+use Rattle.px_link_types.proofs.Closed.{grows}
+use Rattle.px_link_types.proofs.Formed.{has_by}
 use Rattle.px_link.specs.Link.{Reads}
 use Rattle.px_link.proofs.LinkedMethods.{AreMetIn, HasTargets, method_formed}
 use Rattle.px_link.proofs.LinkedOperands.{HasLinked, HasNumbered}
 use Rattle.px_link.proofs.LinkedTypes.{HasDefined, defined_type, have_types, linked_types}
-use Rattle.px_methods.proofs.RowPlaces.{at_place_of, at_zip, beside, each_in, each_of_flat_map, in_flat_map}
+use Rattle.px_link_methods.proofs.RowPlaces.{at_place_of, at_zip, beside, each_in, each_of_flat_map, in_flat_map}
 
 -- CALLS
 

@@ -10,14 +10,14 @@ use Rattle.px_program.specs.declared.program.Place.{Place}
 use Rattle.px_program.specs.declared.program.Place.TheVariants as places
 use Rattle.px_program.specs.declared.program.TypeInfo.{TypeInfo}
 use Rattle.px_tables.specs.Metadata.{View}
-use Rattle.px_types.specs.declared.key.Key.{Key}
-use Rattle.px_types.specs.declared.key.Leaf.TheVariants.{Defined}
-use Rattle.px_types.specs.Infos.{IsInfoOf, number_in}
-use Rattle.px_types.specs.Keys.{alone}
-use Rattle.px_types.specs.Numbers.{base_of as base_leaf, field_key, has_key, instance_fields, is_integer, is_numbered, number_of, place_in, static_fields}
-use Rattle.px_types.proofs.Formed.{at_place, has_by}
-use Rattle.px_types.proofs.Keyed.{at_number, number_below}
-use Rattle.px_methods.specs.Codes.{Numbering, owner_number}
+use Rattle.px_link_types.specs.declared.key.Key.{Key}
+use Rattle.px_link_types.specs.declared.key.Leaf.TheVariants.{Defined}
+use Rattle.px_link_types.specs.Infos.{IsInfoOf, number_in}
+use Rattle.px_link_types.specs.Keys.{alone}
+use Rattle.px_link_types.specs.Numbers.{base_leaf, field_key, has_key, instance_fields, is_integer, is_numbered, number_of, place_in, static_fields}
+use Rattle.px_link_types.proofs.Formed.{at_place, has_by}
+use Rattle.px_link_types.proofs.Keyed.{at_number, number_below}
+use Rattle.px_link_methods.specs.Codes.{Numbering, owner_number}
 use Rattle.px_link.specs.Overrides.{AreLinkedTypes, IsLinkedType}
 
 -- a type differs from another in nothing but the methods that take the place of others in it

@@ -3,24 +3,24 @@ use Rattle.std.proofs.Common.{◌≡◌, ℕ, ◌^◌, ◌<◌, ◌≤◌, true,
 use Rattle.std.specs.Prelude.{IfOk}
 use Rattle.px_link.specs.declared.fault.LinkFault.{LinkFault}
 use Rattle.std.specs.List.{AllByRecursion}
-use Rattle.px_methods.specs.Methods.{AreMethods, met_by_all}
+use Rattle.px_link_methods.specs.Methods.{AreMethods, met_by_all}
 use Rattle.px_pe.specs.Image as pe
 use Rattle.px_program.specs.Formed.{IsWellFormed}
 use Rattle.px_program.specs.declared.program.Layout.{Layout}
 use Rattle.px_program.specs.declared.program.Method.{Method}
 use Rattle.px_program.specs.declared.program.Program.{Program}
 use Rattle.px_program.specs.declared.program.TypeInfo.{TypeInfo}
-use Rattle.px_reach.specs.Met as reach
-use Rattle.px_reach.specs.Met.{IsOwned, IsReached}
-use Rattle.px_reach.specs.Overriders.{AreLists}
-use Rattle.px_reach.specs.declared.body.Whole.{Whole}
-use Rattle.px_reach.specs.declared.methods.ReachFault.{ReachFault}
-use Rattle.px_reach.specs.declared.methods.ReachFault.TheVariants as reach_faults
-use Rattle.px_reach.specs.declared.methods.Reached.{Reached}
+use Rattle.px_link_reach.specs.Met as reach
+use Rattle.px_link_reach.specs.Met.{IsOwned, IsReached}
+use Rattle.px_link_reach.specs.Overriders.{AreLists}
+use Rattle.px_link_reach.specs.declared.body.Whole.{Whole}
+use Rattle.px_link_reach.specs.declared.methods.ReachFault.{ReachFault}
+use Rattle.px_link_reach.specs.declared.methods.ReachFault.TheVariants as reach_faults
+use Rattle.px_link_reach.specs.declared.methods.Reached.{Reached}
 use Rattle.px_tables.specs.Metadata.{View}
-use Rattle.px_types.proofs.Closed.{grows}
-use Rattle.px_types.specs.Numbers.{Numbers, is_numbered, library_keys}
-use Rattle.px_types.specs.declared.key.Key.{Key}
+use Rattle.px_link_types.proofs.Closed.{grows}
+use Rattle.px_link_types.specs.Numbers.{Numbers, is_numbered, library_keys}
+use Rattle.px_link_types.specs.declared.key.Key.{Key}
 use Rattle.px_link.specs.Layout.{IsLayout}
 use Rattle.px_link.specs.Link.{Blames, arguments_of, maker_number, rows_of}
 use Rattle.px_link.specs.Parts.{HasTypes, IsEntryOf, IsLinked, fault_of}

@@ -10,10 +10,10 @@ use Rattle.std.proofs.lemmas.List.{at_drop_all, at_drop_more}
 use Rattle.px_meta.specs.Members.{IsMethod, is_listed, list_end, list_start, owner_of}
 use Rattle.px_meta.specs.Rows.{IsRow, cell, count_of, methods, rows_in, text_at, type_defs}
 use Rattle.px_meta.specs.declared.meta.MetaMethod.{MetaMethod}
-use Rattle.px_methods.specs.Methods.{sig_at}
+use Rattle.px_link_methods.specs.Methods.{sig_at}
 use Rattle.px_sig.specs.declared.sig.SigType.{SigType}
 use Rattle.px_tables.specs.Metadata.{View}
-use Rattle.px_types.specs.Keys.{is_class}
+use Rattle.px_link_types.specs.Keys.{is_class}
 use Rattle.px_link.specs.Link.{is_argument, is_maker, maker_in, takes_nothing, unfit_from}
 use Rattle.px_link.specs.Parts.{is_constructor, makes}
 use Rattle.px_meta.proofs.Alike.{text_is}

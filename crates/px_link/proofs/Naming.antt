@@ -136,25 +136,25 @@ outermost_told v row text front outcome told none is =
     empty_or_not v row text front outcome (λ e. is_empty front (sym told ∙ e)) (λ e empty. false≢true (sym e ∙ told ∙ ap (λ f. length f == 0) empty)) none is
 
 -- what a search for an ending answers
-abbrev pub Tells : List ℕ → List ℕ → Option (Bor (List ℕ)) → Type 0
-Tells text ending answer = MatchOption answer (EndsNot text ending) (λ front. text ≡ front.now ++ ending)
+abbrev pub SplitsEnding : List ℕ → List ℕ → Option (Bor (List ℕ)) → Type 0
+SplitsEnding text ending answer = MatchOption answer (EndsNot text ending) (λ front. text ≡ front.now ++ ending)
 
-pub none_told : (text ending : List ℕ) (answer : Option (Bor (List ℕ))) → answer ≡ None → EndsNot text ending → Tells text ending answer
+pub none_told : (text ending : List ℕ) (answer : Option (Bor (List ℕ))) → answer ≡ None → EndsNot text ending → SplitsEnding text ending answer
 none_told text ending None is ends = ends
 none_told text ending (Some front) is ends = absurd (cc)
 
 pub namespace_told : (text namespace name front rest : List ℕ) (answer : Option (Bor (List ℕ))) → namespace ≢ [] → text ≡ front ++ name → front ≡ rest ++ codes "."
-    → Tells rest namespace answer → Tells text (with_namespace namespace name) answer
+    → SplitsEnding rest namespace answer → SplitsEnding text (with_namespace namespace name) answer
 namespace_told text namespace name front rest None some is dot ends = λ f e. ends f (front_of_dot text namespace name front rest f some is dot e)
 namespace_told text namespace name front rest (Some f) some is dot e = behind_namespace text namespace name front rest f.now some is dot e
 
 pub own_told : (v : View) (row : ℕ) (text namespace name : List ℕ) (answer : Option (Bor (List ℕ))) (t : MetaType) → IsType v row t → namespace ≡ t.namespace.now → name ≡ t.name.now
-    → Tells text (with_namespace namespace name) answer → Tells text (own_name v row) answer
+    → SplitsEnding text (with_namespace namespace name) answer → SplitsEnding text (own_name v row) answer
 own_told v row text namespace name answer t is namespace_is name_is told =
     let one : namespace ≡ text_at v (cell v type_defs row 2) = namespace_is ∙ sym (text_is v (cell v type_defs row 2) t.namespace.now is.namespace) in
     let other : name ≡ text_at v (cell v type_defs row 1) = name_is ∙ sym (text_is v (cell v type_defs row 1) t.name.now is.name) in
     let same : with_namespace namespace name ≡ own_name v row = ap (λ n. with_namespace n name) one ∙ ap (λ n. with_namespace (text_at v (cell v type_defs row 2)) n) other in
-    subst (λ ending. Tells text ending answer) same told
+    subst (λ ending. SplitsEnding text ending answer) same told
 
 pub some_by_test : (xs : List ℕ) → (length xs == 0) ≡ false → xs ≢ []
 some_by_test xs e empty = false≢true (sym e ∙ ap (λ ys. length ys == 0) empty)

@@ -11,9 +11,9 @@ use Rattle.px_meta.specs.Members.{IsMethod, owner_of}
 use Rattle.px_meta.specs.Overriding as said
 use Rattle.px_meta.specs.Rows.{IsRow, methods}
 use Rattle.px_meta.specs.declared.meta.MetaMethod.{MetaMethod}
-use Rattle.px_methods.specs.Codes.{place_of}
+use Rattle.px_link_methods.specs.Codes.{place_of}
 use Rattle.px_program.proofs.Types.{each_at}
-use Rattle.px_reach.specs.Overriders.{AreOverriders, OverridesThrough, Directly, Through}
+use Rattle.px_link_reach.specs.Overriders.{AreOverriders, OverridesThrough, Directly, Through}
 use Rattle.px_tables.specs.Metadata.{View}
 use Rattle.px_link.specs.Overrides.{first_of}
 

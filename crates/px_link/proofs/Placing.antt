@@ -15,16 +15,16 @@ use Rattle.std.proofs.lemmas.List.Sorted.{All-permutation, Contains-permutation,
 use Rattle.std.proofs.lemmas.Map.Keys.{IsDistinct-IsPermutation, IsDistinct-from_apart, apart_from_distinct, ge_from_not_lt}
 use Rattle.std.proofs.lemmas.Option.{same_Some, slice_get-get_or, slice_get_within}
 use Rattle.px_tables.specs.Metadata.{View}
-use Rattle.px_types.specs.Keys.{alone}
-use Rattle.px_types.specs.Parts.{IsKept}
-use Rattle.px_types.specs.declared.key.Key.{Key}
-use Rattle.px_types.specs.declared.key.Leaf.{Leaf}
-use Rattle.px_types.specs.declared.key.Leaf.TheVariants.{Number, Library, Defined}
+use Rattle.px_link_types.specs.Keys.{alone}
+use Rattle.px_link_types.specs.Parts.{IsKept}
+use Rattle.px_link_types.specs.declared.key.Key.{Key}
+use Rattle.px_link_types.specs.declared.key.Leaf.{Leaf}
+use Rattle.px_link_types.specs.declared.key.Leaf.TheVariants.{Number, Library, Defined}
 use Rattle.px_link.specs.Layout.{AreInRowOrder, row_of, row_of_key, type_row}
 use Rattle.px_link.specs.Placed.{ArePlaced, IsApart, numbers_placed}
 use Rattle.px_link.specs.declared.layout.Placed.{Placed}
 use Rattle.px_link.proofs.LinkedBases.{all_apart, number_at}
-use Rattle.px_methods.proofs.RowPlaces.{in_at}
+use Rattle.px_link_methods.proofs.RowPlaces.{in_at}
 
 -- ONE NUMBER AFTER ANOTHER
 

@@ -7,13 +7,13 @@ use Rattle.px_code.specs.declared.body.RawInstr.{RawInstr}
 use Rattle.px_meta.specs.Rows.{IsRow, is_in, methods}
 use Rattle.px_pe.specs.Image as pe
 use Rattle.px_program.proofs.Types.{each-append}
-use Rattle.px_types.proofs.Closed.{each-back}
+use Rattle.px_link_types.proofs.Closed.{each-back}
 use Rattle.px_tables.specs.Metadata.{View}
-use Rattle.px_reach.specs.Met.{IsBody, IsOwned, IsReached, target_of, with_overriders}
-use Rattle.px_reach.proofs.Reaching.{calls_met, overriders_met, rows_apart}
-use Rattle.px_reach.specs.Overriders.{overriders_in}
-use Rattle.px_reach.specs.declared.body.Whole.{Whole}
-use Rattle.px_reach.specs.declared.methods.Reached.{Reached}
+use Rattle.px_link_reach.specs.Met.{IsBody, IsOwned, IsReached, target_of, with_overriders}
+use Rattle.px_link_reach.proofs.Reaching.{calls_met, overriders_met, rows_apart}
+use Rattle.px_link_reach.specs.Overriders.{overriders_in}
+use Rattle.px_link_reach.specs.declared.body.Whole.{Whole}
+use Rattle.px_link_reach.specs.declared.methods.Reached.{Reached}
 
 -- LISTS
 

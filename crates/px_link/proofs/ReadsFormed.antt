@@ -4,20 +4,20 @@ use Rattle.std.specs.Prelude.{Ok, slice_get}
 use Rattle.std.specs.List.{AllByRecursion}
 use Rattle.px_code.specs.declared.body.RawInstr.{RawInstr}
 use Rattle.px_meta.specs.Rows.{is_in}
-use Rattle.px_methods.specs.Codes.{place_of}
+use Rattle.px_link_methods.specs.Codes.{place_of}
 use Rattle.px_pe.specs.Image as pe
 use Rattle.px_program.specs.Formed.{AreTypes, IsWellFormed}
 use Rattle.px_program.specs.declared.program.Program.{Program}
-use Rattle.px_reach.specs.Bodies.{whole_at}
-use Rattle.px_reach.specs.Met.{IsOwned, calls_of}
-use Rattle.px_reach.specs.declared.body.Whole.{Whole}
-use Rattle.px_reach.specs.declared.methods.Reached.{Reached}
+use Rattle.px_link_reach.specs.Bodies.{whole_at}
+use Rattle.px_link_reach.specs.Met.{IsOwned, calls_of}
+use Rattle.px_link_reach.specs.declared.body.Whole.{Whole}
+use Rattle.px_link_reach.specs.declared.methods.Reached.{Reached}
 use Rattle.px_tables.specs.Metadata.{View}
 use Rattle.px_link.specs.Link.{Reads, starts_of}
 use Rattle.px_link.proofs.LinkedEntry.{entry_begins}
 use Rattle.px_link.proofs.LinkedOverrides.{HaveOverriders, overrides_formed}
 use Rattle.px_link.proofs.LinkedProgram.{IsClosedByInstr, closed_by_instr, well_formed_by}
-use Rattle.px_methods.proofs.RowPlaces.{at_place_of, one_of_each}
+use Rattle.px_link_methods.proofs.RowPlaces.{at_place_of, one_of_each}
 
 -- all that the bodies of some rows call is among them
 abbrev pub HaveCalls : View → pe.View → List (List ℕ) → List ℕ → Type 0

@@ -8,21 +8,21 @@ use Rattle.px_meta.specs.Chains.{base_in}
 use Rattle.px_meta.specs.Faults.{Bases, IsFaultless}
 use Rattle.px_meta.specs.Rows.{count_of, type_defs}
 use Rattle.px_meta.specs.declared.fault.MetaKind.TheVariants.{CycleOfBases}
-use Rattle.px_methods.specs.Codes.{Numbering}
+use Rattle.px_link_methods.specs.Codes.{Numbering}
 use Rattle.px_program.proofs.Types.{each_at}
 use Rattle.px_program.specs.Formed.{AreTypes}
 use Rattle.px_program.specs.Library.{library_types}
 use Rattle.px_program.specs.declared.program.TypeInfo.{TypeInfo}
 use Rattle.px_tables.specs.Metadata.{IsSound, View}
-use Rattle.px_types.specs.Infos.{AreInfos, IsInfoOf}
-use Rattle.px_types.specs.Keys.{IsKey, IsLeaf}
-use Rattle.px_types.specs.Making.{AreKnown}
-use Rattle.px_types.specs.Parts.{IsKept}
-use Rattle.px_types.specs.declared.key.Key.{Key}
-use Rattle.px_types.specs.declared.key.Leaf.{Leaf}
-use Rattle.px_types.specs.declared.key.Leaf.TheVariants.{Number, Library, Defined}
-use Rattle.px_types.proofs.Ends.{has_end}
-use Rattle.px_types.proofs.Known.{known_at, known_by, listed_known}
+use Rattle.px_link_types.specs.Infos.{AreInfos, IsInfoOf}
+use Rattle.px_link_types.specs.Keys.{IsKey, IsLeaf}
+use Rattle.px_link_types.specs.Making.{AreKnown}
+use Rattle.px_link_types.specs.Parts.{IsKept}
+use Rattle.px_link_types.specs.declared.key.Key.{Key}
+use Rattle.px_link_types.specs.declared.key.Leaf.{Leaf}
+use Rattle.px_link_types.specs.declared.key.Leaf.TheVariants.{Number, Library, Defined}
+use Rattle.px_link_types.proofs.Ends.{has_end}
+use Rattle.px_link_types.proofs.Known.{known_at, known_by, listed_known}
 use Rattle.px_link.specs.Overrides.{AreLinkedTypes, AreOverrides, IsLinkedType, with_overrides}
 use Rattle.px_link.specs.Parts.{HasTypes}
 use Rattle.px_link.proofs.Bases.{bases_below}

@@ -4,13 +4,13 @@ use Rattle.std.specs.List.{AllByRecursion, AllPairs, AllZip}
 use Rattle.std.specs.Option.{unwrap_or}
 use Rattle.px_meta.specs.Overriding.{Overrides, is_virtual}
 use Rattle.px_meta.specs.Rows.{is_in}
-use Rattle.px_methods.specs.Codes.{Numbering, place_of}
+use Rattle.px_link_methods.specs.Codes.{Numbering, place_of}
 use Rattle.px_program.specs.declared.program.Layout.{Layout}
 use Rattle.px_program.specs.declared.program.Slot.{Slot}
 use Rattle.px_tables.specs.Metadata.{View}
-use Rattle.px_types.specs.declared.key.Key.{Key}
-use Rattle.px_types.specs.declared.key.Leaf.{Leaf}
-use Rattle.px_types.specs.declared.key.Leaf.TheVariants.{Defined}
+use Rattle.px_link_types.specs.declared.key.Key.{Key}
+use Rattle.px_link_types.specs.declared.key.Leaf.{Leaf}
+use Rattle.px_link_types.specs.declared.key.Leaf.TheVariants.{Defined}
 
 -- THE ORDER OF ROWS
 

@@ -1,32 +1,32 @@
 -- The program of a method of an assembly.
-use Rattle.std.specs.Prelude.{◌≡◌, ◌≢◌, ◌⊎◌, ℕ, ◌+◌, ◌==◌, ◌&&◌, ◌||◌, not, Bool, true, false, if◌then◌else◌, List, [], ◌∷◌, codes, drop, Option, Some, None, find}
+use Rattle.std.specs.Prelude.{◌≡◌, ◌≢◌, ◌⊎◌, ℕ, ◌+◌, ◌==◌, ◌&&◌, ◌||◌, not, Bool, true, false, if◌then◌else◌, List, [], ◌∷◌, codes, Option, Some, None, find}
 use Rattle.std.specs.Str.{bytes_eq}
 use Rattle.px_code.specs.declared.body.Body.{Body}
 use Rattle.px_code.specs.declared.body.BodyFault.{BodyFault}
 use Rattle.px_code.specs.declared.body.BodyFault.TheVariants as body_faults
-use Rattle.px_code.specs.Reading.{Fault}
+use Rattle.px_code.specs.Reading.{PlacedFault}
 use Rattle.px_meta.specs.Members.{IsMethod, owner_of}
 use Rattle.px_meta.specs.Rows.{cell, methods, rows_in, text_at}
 use Rattle.px_meta.specs.declared.meta.MetaMethod.{MetaMethod}
-use Rattle.px_methods.specs.Codes.{place_of}
-use Rattle.px_methods.specs.Methods.{AreMethods, met_by_all, sig_at}
-use Rattle.px_operands.specs.Operands.{is_there, is_void}
+use Rattle.px_link_methods.specs.Codes.{place_of}
+use Rattle.px_link_methods.specs.Methods.{AreMethods, met_by_all, sig_at}
+use Rattle.px_link_tokens.specs.Operands.{is_there, is_void}
 use Rattle.px_pe.specs.Image as pe
-use Rattle.px_program.specs.Formed.{entry_of}
+use Rattle.px_program.specs.Formed.{entry_of, explicit_params}
 use Rattle.px_program.specs.declared.program.Method.{Method}
 use Rattle.px_program.specs.declared.program.Place.{Place}
 use Rattle.px_program.specs.declared.program.Program.{Program}
-use Rattle.px_reach.specs.Met.{IsFirstRefused, IsReached}
-use Rattle.px_reach.specs.Overriders.{AreLists}
-use Rattle.px_reach.specs.declared.methods.Reached.{Reached}
+use Rattle.px_link_reach.specs.Met.{IsFirstRefused, IsReached}
+use Rattle.px_link_reach.specs.Overriders.{AreLists}
+use Rattle.px_link_reach.specs.declared.methods.Reached.{Reached}
 use Rattle.px_sig.specs.declared.sig.MethodSig.{MethodSig}
 use Rattle.px_sig.specs.declared.sig.SigType.{SigType}
 use Rattle.px_sig.specs.declared.sig.SigType.TheOpen.{SigType-F, Int, Array}
 use Rattle.px_sig.specs.declared.sig.SigType.TheViews.{out-SigType}
 use Rattle.px_tables.specs.Metadata.{View}
-use Rattle.px_types.specs.Keys.{is_class}
-use Rattle.px_types.specs.Numbers.{Numbers, library_keys}
-use Rattle.px_types.specs.declared.key.Key.{Key}
+use Rattle.px_link_types.specs.Keys.{is_class}
+use Rattle.px_link_types.specs.Numbers.{Numbers, library_keys}
+use Rattle.px_link_types.specs.declared.key.Key.{Key}
 use Rattle.px_link.specs.declared.fault.LinkFault.{LinkFault}
 use Rattle.px_link.specs.declared.fault.LinkFault.TheVariants as faults
 use Rattle.px_link.specs.Layout.{IsLayout}
@@ -143,7 +143,7 @@ pub record Reads (v : View) (image : pe.View) (name : List ℕ) (program : Progr
 
 abbrev pub arguments_in : Option Method → List Place
 arguments_in None = []
-arguments_in (Some method) = if method.is_static then method.params else drop 1 method.params
+arguments_in (Some method) = explicit_params method
 
 -- what a run is given: the parameters of the entry but for its receiver
 abbrev pub arguments_of : Program → List Place
@@ -175,7 +175,7 @@ pub record HasNoMaker (v : View) (name : List ℕ) : Type 0 where
   pub no_maker : has_maker v method sig ≡ false
 
 -- the first method of the program whose body is refused, by its number
-pub record HasBadBody (v : View) (image : pe.View) (name : List ℕ) (fault : Fault) (number : ℕ) : Type 0 where
+pub record HasBadBody (v : View) (image : pe.View) (name : List ℕ) (fault : PlacedFault) (number : ℕ) : Type 0 where
   pub method : ℕ
   pub sig : MethodSig
   pub entry : IsEntry v name method sig

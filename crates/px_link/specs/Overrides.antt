@@ -4,14 +4,14 @@ use Rattle.std.specs.List.{flat_map}
 use Rattle.px_meta.specs.Chains.{IsChain, base_in}
 use Rattle.px_meta.specs.Members.{owner_of}
 use Rattle.px_meta.specs.Rows.{methods}
-use Rattle.px_methods.specs.Codes.{Numbering, place_of}
+use Rattle.px_link_methods.specs.Codes.{Numbering, place_of}
 use Rattle.px_program.specs.declared.program.TypeInfo.{TypeInfo}
-use Rattle.px_reach.specs.Overriders.{overriders_in}
+use Rattle.px_link_reach.specs.Overriders.{overriders_in}
 use Rattle.px_tables.specs.Metadata.{View}
-use Rattle.px_types.specs.Infos.{AreInfos}
-use Rattle.px_types.specs.declared.key.Key.{Key}
-use Rattle.px_types.specs.declared.key.Leaf.{Leaf}
-use Rattle.px_types.specs.declared.key.Leaf.TheVariants.{Defined}
+use Rattle.px_link_types.specs.Infos.{AreInfos}
+use Rattle.px_link_types.specs.declared.key.Key.{Key}
+use Rattle.px_link_types.specs.declared.key.Leaf.{Leaf}
+use Rattle.px_link_types.specs.declared.key.Leaf.TheVariants.{Defined}
 
 -- the first by row of some methods in their order that a type has
 abbrev pub first_of : View → ℕ → List ℕ → Option ℕ

@@ -4,18 +4,18 @@ use Rattle.std.specs.Str.{bytes_eq}
 use Rattle.std.specs.List.{AllByRecursion}
 use Rattle.px_meta.specs.Chains.{IsChain, base_in}
 use Rattle.px_meta.specs.declared.meta.MetaMethod.{MetaMethod}
-use Rattle.px_methods.specs.Codes.{Numbering}
+use Rattle.px_link_methods.specs.Codes.{Numbering}
 use Rattle.px_pe.specs.Image as pe
 use Rattle.px_program.specs.Formed.{AreTypes}
 use Rattle.px_program.specs.declared.program.Program.{Program}
 use Rattle.px_program.specs.declared.program.TypeInfo.{TypeInfo}
-use Rattle.px_reach.specs.Met.{IsOwned, IsReached}
-use Rattle.px_reach.specs.declared.methods.Reached.{Reached}
+use Rattle.px_link_reach.specs.Met.{IsOwned, IsReached}
+use Rattle.px_link_reach.specs.declared.methods.Reached.{Reached}
 use Rattle.px_sig.specs.declared.sig.MethodSig.{MethodSig}
 use Rattle.px_tables.specs.Metadata.{View}
 use Rattle.px_code.specs.declared.body.BodyFault.TheVariants as body_faults
-use Rattle.px_reach.specs.declared.methods.ReachFault.{ReachFault}
-use Rattle.px_reach.specs.declared.methods.ReachFault.TheVariants as reach_faults
+use Rattle.px_link_reach.specs.declared.methods.ReachFault.{ReachFault}
+use Rattle.px_link_reach.specs.declared.methods.ReachFault.TheVariants as reach_faults
 use Rattle.px_link.specs.declared.fault.LinkFault.{LinkFault}
 use Rattle.px_link.specs.declared.fault.LinkFault.TheVariants as faults
 use Rattle.px_link.specs.Link.{IsEntry, Reads, maker_in, maker_of, rows_of, takes_nothing}

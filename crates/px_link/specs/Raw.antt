@@ -5,12 +5,12 @@ use Rattle.px_code.specs.declared.body.Body.{Body}
 use Rattle.px_code.specs.Body.{body_of}
 use Rattle.px_program.specs.Alone.{alone}
 use Rattle.px_program.specs.declared.instr.Instr.{Instr}
-use Rattle.px_methods.specs.Methods.{clause_of}
+use Rattle.px_link_methods.specs.Methods.{clause_of}
 use Rattle.px_program.specs.declared.program.Place.{Place}
 use Rattle.px_program.specs.declared.program.Place.TheVariants as places
 use Rattle.px_program.specs.declared.program.Method.{Method}
 use Rattle.px_program.specs.declared.program.Program.{Program}
-use Rattle.px_opcodes.specs.Opcodes.{known_or_outside, plain_code}
+use Rattle.px_link_opcodes.specs.Opcodes.{known_or_outside, plain_code}
 
 abbrev pub instr_of : RawInstr → Instr
 instr_of raw = record { offset = raw.offset; next = raw.next; code = known_or_outside raw.opcode (plain_code raw) }

@@ -17,7 +17,7 @@ use px_sig::SigType;
 const MOST: usize = 16;
 
 /// The row of the method that is linked, and that of the constructor which makes its object where it needs one.
-#[derive(Clone, Copy, Debug)]
+#[derive(Clone, Copy)]
 pub struct Entry {
     pub method: u32,
     pub maker: Option<u32>,

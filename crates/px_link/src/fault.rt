@@ -5,7 +5,7 @@ use px_code::BodyFault;
 use std::alloc::{AllocError, AllocFailed};
 
 /// Why a program isn't linked.
-#[derive(Debug, Drop)]
+#[derive(Drop)]
 pub enum LinkFault {
     Memory,
     /// No method has the name.

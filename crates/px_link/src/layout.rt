@@ -3,15 +3,15 @@ ghost use Rattle.std.specs.Prelude.{◌≡◌, ◌==◌, ◌<◌, ◌^◌, ℕ, 
 ghost use Rattle.std.specs.List.{AllByRecursion, AllZip, IsDistinct};
 ghost use Rattle.std.specs.Ordering.{nat_cmp};
 ghost use Rattle.px_meta.specs.Rows.{IsRow, methods};
-ghost use Rattle.px_reach.specs.Met.{IsOwned};
+ghost use Rattle.px_link_reach.specs.Met.{IsOwned};
 ghost use Rattle.px_link.specs.Layout.{AreInRowOrder, IsLayout, IsSlot, row_of, type_row};
 ghost use Rattle.px_link.specs.Placed.{ArePlaced, IsApart, IsOverridden};
 
 use indexmap::IndexSet;
+use px_link_methods::set_of;
+use px_link_types::{Key, Leaf, Types};
 use px_meta::Meta;
-use px_methods::set_of;
 use px_program::{Layout, Slot};
-use px_types::{Key, Leaf, Types};
 use sqlite_items::Items;
 use std::alloc::{AllocError, Global};
 use std::cmp::Ordering;
@@ -135,6 +135,30 @@ fn slots_of(
     Ok(slots)
 }
 
+// The layout, by the set of the methods' rows.
+fn layout_by(
+    alloc: Global,
+    meta: &Meta,
+    types: &Types,
+    rows: &[u32],
+    numbers: &IndexSet<u32>,
+) -> Result<Layout, AllocError>
+    requires tables { types.now.tables ≡ meta.now }
+    requires owned { AllByRecursion (IsOwned meta.now) rows.now }
+    requires distinct { IsDistinct (λ row other. row == other) rows.now }
+    requires few { length rows.now < 2 ^ 32 }
+    requires numbers { numbers.now.keys ≡ rows.now }
+    ensures { IfOk result (IsLayout meta.now (record { keys = types.now.keys; rows = rows.now })) }
+{
+    let by_type = placed_types(alloc, types.keys())?;
+    let by_method = placed_methods(alloc, rows)?;
+    Ok(Layout {
+        types: in_row_order(alloc, by_type)?,
+        methods: in_row_order(alloc, by_method)?,
+        slots: slots_of(alloc, meta, numbers, rows)?,
+    })
+}
+
 /// The layout of a program with these types, and with the methods of these rows. It takes a turn per type, method and method that one overrides, and two
 /// sorts.
 pub fn layout_of(
@@ -150,11 +174,5 @@ pub fn layout_of(
     ensures { IfOk result (IsLayout meta.now (record { keys = types.now.keys; rows = rows.now })) }
 {
     let numbers = set_of(alloc, rows)?;
-    let by_type = placed_types(alloc, types.keys())?;
-    let by_method = placed_methods(alloc, rows)?;
-    Ok(Layout {
-        types: in_row_order(alloc, by_type)?,
-        methods: in_row_order(alloc, by_method)?,
-        slots: slots_of(alloc, meta, &numbers, rows)?,
-    })
+    layout_by(alloc, meta, types, rows, &numbers)
 }

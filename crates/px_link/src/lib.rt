@@ -4,16 +4,12 @@
 mod entry;
 mod fault;
 mod layout;
-#[cfg(test)]
-mod link_tests;
 mod linked;
 mod maker;
 mod name;
 mod overrides;
 mod params;
 mod raw;
-#[cfg(test)]
-mod tests;
 
 pub use fault::LinkFault;
 pub use linked::link;

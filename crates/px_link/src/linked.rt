@@ -1,12 +1,12 @@
 // The program of a method of an assembly.
 ghost use Rattle.std.specs.Prelude.{◌≡◌, ◌≤◌, ◌<◌, ◌^◌, ◌∷◌, ℕ, List, length, IfOk, IfErr};
 ghost use Rattle.std.specs.List.{AllByRecursion};
-ghost use Rattle.px_methods.specs.Methods.{met_by_all};
+ghost use Rattle.px_link_methods.specs.Methods.{met_by_all};
 ghost use Rattle.px_pe.specs.Image as pe;
 ghost use Rattle.px_program.specs.Formed.{IsWellFormed};
-ghost use Rattle.px_reach.specs.Met.{IsOwned, IsReached};
-ghost use Rattle.px_reach.specs.Overriders.{AreLists};
-ghost use Rattle.px_types.specs.Numbers.{Numbers, library_keys};
+ghost use Rattle.px_link_reach.specs.Met.{IsOwned, IsReached};
+ghost use Rattle.px_link_reach.specs.Overriders.{AreLists};
+ghost use Rattle.px_link_types.specs.Numbers.{Numbers, library_keys};
 ghost use Rattle.px_link.specs.Link.{Blames, Reads, arguments_of, maker_number, rows_of};
 ghost use Rattle.px_link.specs.Parts.{IsEntryOf, IsLinked, IsReachedFrom, fault_of};
 
@@ -15,13 +15,13 @@ use crate::entry::{Entry, find_entry};
 use crate::layout::layout_of;
 use crate::overrides::types_of;
 use px_code::BodyFault;
+use px_link_methods::{met_by_all, methods_of};
+use px_link_reach::{Overriding, ReachFault, Reached, Whole, reach};
+use px_link_tokens::Tokens;
+use px_link_types::Types;
 use px_meta::Meta;
-use px_methods::{met_by_all, methods_of};
-use px_operands::Tokens;
 use px_pe::Image;
 use px_program::Program;
-use px_reach::{Overriding, ReachFault, Reached, Whole, reach};
-use px_types::Types;
 use sqlite_items::Items;
 use std::alloc::{AllocError, Global};
 
@@ -82,6 +82,39 @@ fn types_met<'m, 'a>(
     Ok(types)
 }
 
+// The program, by the types that its methods meet.
+fn program_with(
+    alloc: Global,
+    tokens: &Tokens,
+    overriding: &Overriding,
+    entry: &Entry,
+    reached: &Reached,
+    types: &Types,
+) -> Result<Program, AllocError>
+    requires same { overriding.now.tables ≡ tokens.now }
+    requires owned { AllByRecursion (IsOwned tokens.now) reached.now.rows }
+    requires few { length reached.now.rows < 2 ^ 32 }
+    requires lists { AreLists tokens.now overriding.now.lists }
+    requires reached { IsReachedFrom tokens.now overriding.now.lists entry.now reached.now }
+    requires types { types.now.tables ≡ tokens.now }
+    requires numbers { Numbers tokens.now library_keys (met_by_all tokens.now reached.now.rows reached.now.bodies) types.now.keys }
+    ensures { (image : pe.View) (name : List ℕ) → IsEntryOf tokens.now name entry.now → IsReached tokens.now image overriding.now.lists (entry.now.method ∷ rows_of entry.now.maker) reached.now → IfOk result (IsLinked tokens.now image name) }
+{
+    let rows = reached.rows.as_slice();
+    let bodies = reached.bodies.as_slice();
+    let targets = reached.virtual_targets.as_slice();
+    let infos = types_of(alloc, tokens.meta(), overriding, types, rows, targets)?;
+    let methods = methods_of(alloc, tokens, types, rows, bodies)?;
+    let layout = layout_of(alloc, tokens.meta(), types, rows)?;
+    Ok(Program {
+        types: Items::from_vec(infos),
+        methods: Items::from_vec(methods),
+        entry: 0,
+        maker: maker_number(rows, entry.maker),
+        layout,
+    })
+}
+
 // The program of the methods that are reached.
 fn program_of(
     alloc: Global,
@@ -99,18 +132,8 @@ fn program_of(
 {
     let rows = reached.rows.as_slice();
     let bodies = reached.bodies.as_slice();
-    let targets = reached.virtual_targets.as_slice();
     let types = types_met(alloc, tokens, rows, bodies)?;
-    let infos = types_of(alloc, tokens.meta(), overriding, &types, rows, targets)?;
-    let methods = methods_of(alloc, tokens, &types, rows, bodies)?;
-    let layout = layout_of(alloc, tokens.meta(), &types, rows)?;
-    Ok(Program {
-        types: Items::from_vec(infos),
-        methods: Items::from_vec(methods),
-        entry: 0,
-        maker: maker_number(rows, entry.maker),
-        layout,
-    })
+    program_with(alloc, tokens, overriding, entry, reached, &types)
 }
 
 // The program of a method with all that it reaches.

@@ -5,9 +5,9 @@ ghost use Rattle.px_meta.specs.Rows.{IsRow, methods, type_defs};
 ghost use Rattle.px_link.specs.Link.{maker_in, takes_nothing};
 ghost use Rattle.px_link.specs.Parts.{is_constructor, maker_for, makes};
 
+use px_link_types::is_class;
 use px_meta::{METHODS, Meta, MetaMethod, TYPE_DEFS};
 use px_sig::{MethodSig, SigType};
-use px_types::is_class;
 
 // A plain signature of an instance method that takes nothing and returns nothing.
 fn takes_nothing(sig: &MethodSig) -> bool

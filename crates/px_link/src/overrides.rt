@@ -4,19 +4,19 @@ ghost use Rattle.std.specs.List.{AllByRecursion, IsDistinct};
 ghost use Rattle.px_meta.specs.Chains.{base_in};
 ghost use Rattle.px_meta.specs.Faults.{IsFaultless};
 ghost use Rattle.px_meta.specs.Rows.{IsRow, methods, type_defs};
-ghost use Rattle.px_methods.specs.Codes.{place_of};
+ghost use Rattle.px_link_methods.specs.Codes.{place_of};
 ghost use Rattle.px_tables.specs.Metadata.{IsSound};
-ghost use Rattle.px_types.specs.Keys.{IsKey};
+ghost use Rattle.px_link_types.specs.Keys.{IsKey};
 ghost use Rattle.px_link.specs.Overrides.{AreOverrides, first_of, nearest};
 ghost use Rattle.px_link.specs.Parts.{HasTypes, IsLine, pairs_by};
 
 use indexmap::IndexSet;
+use px_link_methods::set_of;
+use px_link_reach::Overriding;
+use px_link_types::{Key, Leaf, Types};
 use px_meta::{Meta, TYPE_DEFS, base_in, cell_of, some_row};
-use px_methods::set_of;
 use px_program::TypeInfo;
-use px_reach::Overriding;
 use px_tables::Tables;
-use px_types::{Key, Leaf, Types};
 use sqlite_items::Items;
 use std::alloc::{AllocError, Global};
 

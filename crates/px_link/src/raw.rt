@@ -6,13 +6,13 @@ ghost use Rattle.px_program.specs.Alone.{alone, types_with};
 ghost use Rattle.px_program.specs.Formed.{FitsPlace, IsInteger, IsWellFormed};
 ghost use Rattle.px_link.specs.Link.{BlamesRaw};
 ghost use Rattle.px_link.specs.Raw.{instr_of, method_of, program_of};
-ghost use Rattle.px_methods.specs.Methods.{clause_of};
+ghost use Rattle.px_link_methods.specs.Methods.{clause_of};
 
 use crate::LinkFault;
 use crate::params::{elements_of, params_of};
 use px_code::{Body, RawClause, RawInstr};
-use px_methods::clause_of;
-use px_opcodes::code_of;
+use px_link_methods::clause_of;
+use px_link_opcodes::code_of;
 use px_program::{Clause, Instr, Method, Place, Program, alone};
 use sqlite_items::Items;
 use std::alloc::{AllocError, Global};

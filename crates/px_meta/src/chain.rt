@@ -8,7 +8,7 @@ use crate::table::{NESTED_CLASSES, TYPE_DEFS, base_in, cell_of, set_row, some_ro
 use px_tables::Tables;
 use std::alloc::{AllocError, Global};
 
-// The bases of all types.
+/// The bases of all types.
 pub fn bases_of(alloc: Global, tables: &Tables) -> Result<Vec<Option<u32>>, AllocError>
     ensures { IfOk result (λ bases. AreOf (base_in tables.now) (count_of tables.now type_defs) bases.items) }
 {
@@ -19,7 +19,7 @@ pub fn bases_of(alloc: Global, tables: &Tables) -> Result<Vec<Option<u32>>, Allo
     Ok(bases)
 }
 
-// The types that all types are nested in. Rows are walked from the last one, so that the first for a type counts.
+/// The types that all types are nested in. Rows are walked from the last one, so that the first for a type counts.
 pub fn outers_of(alloc: Global, tables: &Tables) -> Result<Vec<Option<u32>>, AllocError>
     ensures { IfOk result (λ outers. AreOf (outer_of tables.now) (count_of tables.now type_defs) outers.items) }
 {

@@ -6,7 +6,7 @@ use crate::table::token_of;
 use std::alloc::{AllocError, AllocFailed};
 
 /// What is wrong with a row.
-#[derive(Clone, Copy, Debug, PartialEq, Eq)]
+#[derive(Clone, Copy, PartialEq, Eq)]
 pub enum MetaKind {
     /// The type's list of fields or of methods begins after that of the next type, or passes the end.
     BadList,
@@ -17,7 +17,7 @@ pub enum MetaKind {
 }
 
 /// Why metadata isn't resolved: want of memory, or the first fault, by the token of its row and then in the order of the kinds.
-#[derive(Clone, Copy, Debug, PartialEq, Eq)]
+#[derive(Clone, Copy, PartialEq, Eq)]
 pub enum MetaFault {
     Memory,
     Bad { kind: MetaKind, token: u32 },

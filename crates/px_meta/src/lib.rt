@@ -10,8 +10,6 @@ mod overriding;
 mod owner;
 mod signature;
 mod table;
-#[cfg(test)]
-mod tests;
 mod types;
 
 pub use fault::{MetaFault, MetaKind};

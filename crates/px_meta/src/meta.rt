@@ -2,7 +2,7 @@
 use px_sig::{MethodSig, SigType};
 
 /// A type of the assembly: Partition II, 22.37. `base` is a token, and `outer` the row of the type that it is nested in.
-#[derive(Clone, Copy, Debug)]
+#[derive(Clone, Copy)]
 pub struct MetaType<'a> {
     pub namespace: &'a str,
     pub name: &'a str,
@@ -14,7 +14,7 @@ pub struct MetaType<'a> {
 }
 
 /// A method of the assembly: Partition II, 22.26. `owner` is the row of its type, and 0 where no type has it.
-#[derive(Debug, Drop)]
+#[derive(Drop)]
 pub struct MetaMethod<'a> {
     pub owner: u32,
     pub name: &'a str,
@@ -24,7 +24,7 @@ pub struct MetaMethod<'a> {
 }
 
 /// A field of the assembly: Partition II, 22.15. `owner` is the row of its type, and 0 where no type has it.
-#[derive(Debug, Drop)]
+#[derive(Drop)]
 pub struct MetaField<'a> {
     pub owner: u32,
     pub name: &'a str,
@@ -33,7 +33,7 @@ pub struct MetaField<'a> {
 }
 
 /// What a token of a member names.
-#[derive(Clone, Copy, Debug)]
+#[derive(Clone, Copy)]
 pub enum Member<'m> {
     /// A method of the assembly, by its row.
     Method(u32),

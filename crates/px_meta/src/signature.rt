@@ -20,7 +20,7 @@ fn blob_in(heap: &[u8], at: u32) -> Option<&[u8]>
     blob_at(heap, at)
 }
 
-// The signature of a method at a place of the blobs, where one that can be read stands there.
+/// The signature of a method at a place of the blobs, where one that can be read stands there.
 pub fn method_sig_of(
     alloc: Global,
     tables: &Tables,
@@ -39,7 +39,7 @@ pub fn method_sig_of(
     }
 }
 
-// The type in the signature of a field.
+/// The type in the signature of a field.
 pub fn field_sig_of(alloc: Global, tables: &Tables, at: u32) -> Result<Option<SigType>, MetaFault>
     ensures sig { IfOk result (λ sig. sig ≡ field_sig_at tables.now at) }
     ensures memory { IfErr result (λ fault. fault ≡ Memory) }
@@ -54,7 +54,7 @@ pub fn field_sig_of(alloc: Global, tables: &Tables, at: u32) -> Result<Option<Si
     }
 }
 
-// The type that a blob spells.
+/// The type that a blob spells.
 pub fn type_sig_of(alloc: Global, tables: &Tables, at: u32) -> Result<Option<SigType>, MetaFault>
     ensures sig { IfOk result (λ sig. sig ≡ type_sig_at tables.now at) }
     ensures memory { IfErr result (λ fault. fault ≡ Memory) }

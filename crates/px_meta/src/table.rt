@@ -37,7 +37,7 @@ pub const MODULE_REFS: u8 = 0x1A;
 /// The number of the table NestedClass: Partition II, 22.32.
 pub const NESTED_CLASSES: u8 = 0x29;
 
-// The token of a row.
+/// The token of a row.
 pub fn token_of(table: u8, row: u32) -> u32
     ensures { result ≡ token table row }
 {
@@ -74,7 +74,7 @@ pub fn base_in(tables: &Tables, row: u32) -> Option<u32>
     }
 }
 
-// The token of the base of a type.
+/// The token of the base of a type.
 pub fn base_token(index: u32) -> Option<u32>
     ensures { result ≡ coded_token type_def_or_ref 2 index }
 {
@@ -90,7 +90,7 @@ pub fn base_token(index: u32) -> Option<u32>
     }
 }
 
-// Where the list of a type's members begins, in a table of members.
+/// Where the list of a type's members begins, in a table of members.
 pub fn list_start(tables: &Tables, table: u8, row: u32) -> u64
     requires { IsRow tables.now type_defs row }
     ensures { result ≡ list_start tables.now table row }
@@ -98,7 +98,7 @@ pub fn list_start(tables: &Tables, table: u8, row: u32) -> u64
     u64::from(cell_of(tables, TYPE_DEFS, row, if table == FIELDS { 4 } else { 5 }))
 }
 
-// Where the list of a type's members ends.
+/// Where the list of a type's members ends.
 pub fn list_end(tables: &Tables, table: u8, row: u32) -> u64
     requires { IsRow tables.now type_defs row }
     ensures { result ≡ list_end tables.now table row }
@@ -110,14 +110,14 @@ pub fn list_end(tables: &Tables, table: u8, row: u32) -> u64
     }
 }
 
-// The text at a place of the strings.
+/// The text at a place of the strings.
 pub fn text_of<'a>(tables: &Tables<'a>, at: u32) -> Option<&'a str>
     ensures { MatchOption result (IsReadable tables.now at → ⊥) (λ text. IsStringAt tables.now.strings at text.now) }
 {
     string_at(tables.heap(Heap::Strings), at)
 }
 
-// The namespace and the name of a TypeRef or TypeDef.
+/// The namespace and the name of a TypeRef or TypeDef.
 pub fn names_of<'a>(tables: &Tables<'a>, table: u8, row: u32) -> Option<(&'a str, &'a str)>
     requires { IsRow tables.now table row }
     ensures { MatchOption result (HasNames tables.now table row → ⊥) (λ names. IsStringAt tables.now.strings (cell tables.now table row 2) names.0.now × IsStringAt tables.now.strings (cell tables.now table row 1) names.1.now) }
@@ -127,7 +127,7 @@ pub fn names_of<'a>(tables: &Tables<'a>, table: u8, row: u32) -> Option<(&'a str
     Some((namespace, name))
 }
 
-// The token of the parent of a reference to a member.
+/// The token of the parent of a reference to a member.
 pub fn parent_token(index: u32) -> u32
     ensures { result ≡ parent_by index }
 {
@@ -141,7 +141,7 @@ pub fn parent_token(index: u32) -> u32
     token_of(table, index / 8)
 }
 
-// The row that a token names, where it names one of the table.
+/// The row that a token names, where it names one of the table.
 pub fn row_named(tables: &Tables, table: u8, token: u32) -> Option<u32>
     ensures { MatchOption result (Names tables.now table token → ⊥) (λ row. (row ≡ row_in token) × Names tables.now table token) }
 {
@@ -152,7 +152,7 @@ pub fn row_named(tables: &Tables, table: u8, token: u32) -> Option<u32>
     }
 }
 
-// Sets what is kept for a row, where there is such a row.
+/// Sets what is kept for a row, where there is such a row.
 pub fn set_row(kept: &mut [Option<u32>], row: usize, value: Option<u32>)
     ensures named { 1 ≤ row → row ≤ length kept.old → slice_index_or kept.new (row - 1) None ≡ value }
     ensures others { (other : ℕ) → 1 ≤ other → other ≢ row → slice_index_or kept.new (other - 1) None ≡ slice_index_or kept.old (other - 1) None }

@@ -17,7 +17,7 @@ use crate::table::{
 use px_tables::Tables;
 use std::alloc::Global;
 
-// Checks that the names of references to types can be read.
+/// Checks that the names of references to types can be read.
 pub fn check_type_refs(tables: &Tables) -> Result<(), MetaFault>
     ensures sound { OnOk result ((row : ℕ) → IsSound tables.now type_refs row) }
     ensures fault { IfErr result (BlamesTable tables.now type_refs) }

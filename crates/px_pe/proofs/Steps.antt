@@ -1,7 +1,8 @@
 -- One section header after the other, of `count` that stand from `at` on; `n` of them are behind.
 use Rattle.std.proofs.Common.{◌≡◌, ◌<◌, ◌≤◌, ℕ, suc, ◌+◌, ◌-◌, ◌*◌, true, false, List, length, Result, Ok, Err, Some, refl, arith, find}
 use Rattle.px_pe.specs.declared.fault.PeFault.{PeFault}
-use Rattle.px_pe.specs.Reading.{◌>>=◌, read_bytes}
+use Rattle.px_pe.specs.Reading.{read_bytes}
+use Rattle.px_reading.specs.Reading.{◌>>=◌}
 use Rattle.px_pe.specs.Section.{check_section, check_sections, holds, section_in, sections_in}
 
 one_more : (count n : ℕ) → n < count → count - n ≡ suc (count - (n + 1))

@@ -11,7 +11,8 @@ use Rattle.px_pe.specs.declared.headers.Form.TheVariants.{Pe32, Pe32Plus}
 use Rattle.px_pe.specs.declared.headers.Headers.{Headers}
 use Rattle.px_pe.specs.declared.section.Section.{Section}
 use Rattle.px_pe.specs.declared.section.Span.{Span}
-use Rattle.px_pe.specs.Reading.{fault, ◌>>=◌, read_bytes, read_number}
+use Rattle.px_pe.specs.Reading.{fault, read_bytes, read_number}
+use Rattle.px_reading.specs.Reading.{◌>>=◌}
 use Rattle.px_pe.specs.Section.{at_rva, table_of, Table}
 
 -- what is known of an image

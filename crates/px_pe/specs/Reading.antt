@@ -1,6 +1,7 @@
 -- A reading of bytes that may fail: its first fault is its answer.
 use Rattle.std.specs.Prelude.{ℕ, ◌+◌, nat_lt, List, length, take, drop, if◌then◌else◌, Result, Ok, Err}
 use Rattle.byteorder.specs.Endian.{little_number}
+use Rattle.px_reading.specs.Reading.{◌>>=◌}
 use Rattle.px_pe.specs.declared.fault.PeKind.{PeKind}
 use Rattle.px_pe.specs.declared.fault.PeKind.TheVariants.{Cut}
 use Rattle.px_pe.specs.declared.fault.PeFault.{PeFault}
@@ -8,12 +9,6 @@ use Rattle.px_pe.specs.declared.fault.PeFault.{PeFault}
 -- what is wrong, and at which byte
 abbrev pub fault : PeKind → ℕ → PeFault
 fault kind at = record { kind = kind; at = at }
-
--- the second reading goes on with what the first gives
-infixl 10 ◌>>=◌
-abbrev pub ◌>>=◌ : {A B : Type 0} → Result A PeFault → (A → Result B PeFault) → Result B PeFault
-(Ok x) >>= f = f x
-(Err e) >>= f = Err e
 
 -- a read of so many bytes; one that passes the file's end is cut at its place
 unfoldable pub read_bytes : ℕ → List ℕ → ℕ → Result (List ℕ) PeFault

@@ -6,7 +6,8 @@ use Rattle.px_pe.specs.declared.fault.PeKind.TheVariants.{BadSections}
 use Rattle.px_pe.specs.declared.fault.PeFault.{PeFault}
 use Rattle.px_pe.specs.declared.section.Section.{Section}
 use Rattle.px_pe.specs.declared.section.Span.{Span}
-use Rattle.px_pe.specs.Reading.{fault, ◌>>=◌, read_bytes}
+use Rattle.px_pe.specs.Reading.{fault, read_bytes}
+use Rattle.px_reading.specs.Reading.{◌>>=◌}
 
 -- the section that a header of 40 bytes stands for: VirtualAddress, SizeOfRawData and PointerToRawData
 unfoldable pub section_of : List ℕ → Section

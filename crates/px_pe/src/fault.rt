@@ -2,7 +2,7 @@
 ghost use Rattle.std.specs.Prelude.{◌≡◌};
 
 /// What is wrong with a file.
-#[derive(Clone, Copy, Debug, PartialEq, Eq)]
+#[derive(Clone, Copy, PartialEq, Eq)]
 pub enum PeKind {
     /// One of the marks of an image isn't there.
     NotPe,
@@ -17,7 +17,7 @@ pub enum PeKind {
 }
 
 /// The first thing that is wrong with a file, and the byte at which it is.
-#[derive(Clone, Copy, Debug, PartialEq, Eq)]
+#[derive(Clone, Copy, PartialEq, Eq)]
 pub struct PeFault {
     pub kind: PeKind,
     pub at: u32,

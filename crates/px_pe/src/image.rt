@@ -10,7 +10,7 @@ use byteorder::{ByteOrder, LittleEndian};
 use std::marker::Model;
 
 /// An image whose headers were read and checked: the bytes of its file, its sections and its metadata.
-#[derive(Debug, Drop)]
+#[derive(Drop)]
 pub struct Image<'a> {
     sections: SectionTable<'a>,
     metadata: Span,

@@ -6,8 +6,6 @@ mod headers;
 mod image;
 mod read;
 mod section;
-#[cfg(test)]
-mod tests;
 
 pub use fault::{PeFault, PeKind};
 pub use image::{Image, read_pe};

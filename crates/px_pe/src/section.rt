@@ -8,7 +8,7 @@ use byteorder::{ByteOrder, LittleEndian};
 use std::marker::Model;
 
 /// A range of bytes of a file.
-#[derive(Clone, Copy, Debug, PartialEq, Eq)]
+#[derive(Clone, Copy, PartialEq, Eq)]
 pub struct Span {
     pub start: u32,
     pub len: u32,
@@ -69,7 +69,7 @@ fn check_section(file: &[u8], at: u32) -> Result<(), PeFault>
 }
 
 /// The section headers of a file, one after the other from a place on. They and the raw data of the sections lie within the file.
-#[derive(Debug, Drop)]
+#[derive(Drop)]
 pub struct SectionTable<'a> {
     file: &'a [u8],
     at: u32,

@@ -1,5 +1,5 @@
 -- Well-formed programs: their numbers name what is there, their chains of types end, and their instructions lead to instructions.
-use Rattle.std.specs.Prelude.{◌≡◌, ◌≢◌, ◌⊎◌, ℕ, zero, suc, ◌<◌, ◌^◌, List, [], ◌∷◌, ◌==◌, ◌&&◌, ◌||◌, Bool, true, false, Option, Some, None, IsSome, IfSome, length, map, take, drop, slice_get, find}
+use Rattle.std.specs.Prelude.{◌≡◌, ◌≢◌, ◌⊎◌, ℕ, zero, suc, ◌<◌, ◌^◌, List, [], ◌∷◌, ◌==◌, ◌&&◌, ◌||◌, Bool, true, false, if◌then◌else◌, Option, Some, None, IsSome, IfSome, length, map, take, drop, slice_get, find}
 use Rattle.std.specs.List.{AllByRecursion, list_all, list_any}
 use Rattle.px_program.specs.Library.{library_types}
 use Rattle.px_program.specs.declared.instr.Instr.{Instr}
@@ -159,6 +159,10 @@ pub record AreTypes (types : List TypeInfo) : Type 0 where
   pub elements : (type : ℕ) → HasEnd (element_of types) type
 
 -- METHODS
+
+-- the parameters beside the receiver (Partition I, 8.6.1.5)
+abbrev pub explicit_params : Method → List Place
+explicit_params method = if method.is_static then method.params else drop 1 method.params
 
 abbrev pub method_at : Program → ℕ → Option Method
 method_at program number = slice_get program.methods number

@@ -3,7 +3,7 @@ use crate::{Name, Place};
 use sqlite_items::Items;
 
 /// What two values are compared by.
-#[derive(Clone, Copy, Debug, PartialEq, Eq)]
+#[derive(Clone, Copy, PartialEq, Eq)]
 pub enum Test {
     Eq,
     Ne,
@@ -14,7 +14,7 @@ pub enum Test {
 }
 
 /// A comparison of two patterns: of 64 bits where `wide`, else of 32, read as signed numbers where `signed`.
-#[derive(Clone, Copy, Debug, PartialEq, Eq)]
+#[derive(Clone, Copy, PartialEq, Eq)]
 pub struct Compare {
     pub test: Test,
     pub signed: bool,
@@ -22,7 +22,7 @@ pub struct Compare {
 }
 
 /// An integer type that an instruction names: Partition III, 1.1.1.
-#[derive(Clone, Copy, Debug, PartialEq, Eq)]
+#[derive(Clone, Copy, PartialEq, Eq)]
 pub enum IntegerType {
     I1,
     U1,
@@ -41,7 +41,7 @@ pub enum IntegerType {
 pub type Text = Items<u16>;
 
 /// What moves a value to the stack, from it, or on it.
-#[derive(Debug, Drop)]
+#[derive(Drop)]
 pub enum Move {
     /// `ldarg` of the parameter of this number: Partition III, 3.38.
     Argument(u32),
@@ -64,7 +64,7 @@ pub enum Move {
 }
 
 /// An operation on two integers of one kind that wraps, or goes bit by bit: Partition III, 3.1, 3.3, 3.48, 3.53, 3.64 and 3.67.
-#[derive(Clone, Copy, Debug, PartialEq, Eq)]
+#[derive(Clone, Copy, PartialEq, Eq)]
 pub enum Arithmetic {
     Add,
     Sub,
@@ -75,14 +75,14 @@ pub enum Arithmetic {
 }
 
 /// What a division gives: Partition III, 3.31, 3.32, 3.55 and 3.56.
-#[derive(Clone, Copy, Debug, PartialEq, Eq)]
+#[derive(Clone, Copy, PartialEq, Eq)]
 pub enum Division {
     Quotient,
     Remainder,
 }
 
 /// An operation that throws where the result is out of range.
-#[derive(Clone, Copy, Debug, PartialEq, Eq)]
+#[derive(Clone, Copy, PartialEq, Eq)]
 pub enum Checked {
     Add,
     Sub,
@@ -90,7 +90,7 @@ pub enum Checked {
 }
 
 /// `shl`, `shr` and `shr.un`: Partition III, 3.58 to 3.60.
-#[derive(Clone, Copy, Debug, PartialEq, Eq)]
+#[derive(Clone, Copy, PartialEq, Eq)]
 pub enum Shift {
     Left,
     Right,
@@ -98,14 +98,14 @@ pub enum Shift {
 }
 
 /// `neg` and `not`: Partition III, 3.50 and 3.52.
-#[derive(Clone, Copy, Debug, PartialEq, Eq)]
+#[derive(Clone, Copy, PartialEq, Eq)]
 pub enum Unary {
     Negate,
     Complement,
 }
 
 /// What an instruction says of an array's elements: an integer type, whose width counts, any reference, or the place itself.
-#[derive(Clone, Copy, Debug, PartialEq, Eq)]
+#[derive(Clone, Copy, PartialEq, Eq)]
 pub enum ElementForm {
     Integer(IntegerType),
     Reference,
@@ -113,28 +113,28 @@ pub enum ElementForm {
 }
 
 /// A field by the number of the type that has it, and its place among that type's fields, or among its statics.
-#[derive(Clone, Copy, Debug, PartialEq, Eq)]
+#[derive(Clone, Copy, PartialEq, Eq)]
 pub struct Field {
     pub owner: u32,
     pub index: u32,
 }
 
 /// What is called: a method of the program, or a constructor of a type of the library that does nothing, with its parameters without the receiver.
-#[derive(Debug, Drop)]
+#[derive(Drop)]
 pub enum Callee {
     Method(u32),
     Constructor { class: u32, params: Items<Place> },
 }
 
 /// The two calls of `Microsoft.Pex.Framework` that are known: `PexAssume::IsTrue` and `PexAssert::IsTrue`.
-#[derive(Clone, Copy, Debug, PartialEq, Eq)]
+#[derive(Clone, Copy, PartialEq, Eq)]
 pub enum Check {
     Assume,
     Assert,
 }
 
 /// What an instruction does. Targets are offsets of instructions of its method; types, fields and methods go by the program's numbers.
-#[derive(Debug, Drop)]
+#[derive(Drop)]
 pub enum Code {
     /// `nop`, or `break` where `is_break`: Partition III, 3.51 and 3.16.
     Nop {
@@ -226,7 +226,7 @@ pub enum Code {
 }
 
 /// An instruction at its offset in the method's code; `next` is the offset behind it.
-#[derive(Debug, Drop)]
+#[derive(Drop)]
 pub struct Instr {
     pub offset: u32,
     pub next: u32,

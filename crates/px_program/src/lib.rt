@@ -7,8 +7,6 @@ mod program;
 mod record;
 mod same;
 mod single;
-#[cfg(test)]
-mod tests;
 
 pub use instr::{
     Arithmetic, Callee, Check, Checked, Code, Compare, Division, ElementForm, Field, Instr,

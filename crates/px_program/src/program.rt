@@ -10,7 +10,7 @@ use std::alloc::Global;
 pub type Name = Items<u8>;
 
 /// What a parameter, a field or an element holds: Partition I, 8.2.2, without floats.
-#[derive(Clone, Copy, Debug, PartialEq, Eq)]
+#[derive(Clone, Copy, PartialEq, Eq)]
 pub enum Place {
     Bool,
     Char,
@@ -42,7 +42,7 @@ pub struct TypeInfo {
 }
 
 /// What a protected range is for: Partition II, 25.4.6.
-#[derive(Clone, Copy, Debug, PartialEq, Eq)]
+#[derive(Clone, Copy, PartialEq, Eq)]
 pub enum ClauseKind {
     Catch,
     Filter,
@@ -51,7 +51,7 @@ pub enum ClauseKind {
 }
 
 /// A protected range of offsets, `from` to `to`, and the block that handles it, `start` to `stop`.
-#[derive(Clone, Copy, Debug, PartialEq, Eq)]
+#[derive(Clone, Copy, PartialEq, Eq)]
 pub struct Clause {
     pub kind: ClauseKind,
     pub from: u32,
@@ -77,7 +77,7 @@ pub struct Method {
 
 /// What a method is in overriding: Partition II, 10.3. `overridden` is the nearest method that it overrides, at once or through others, of those that the
 /// program has.
-#[derive(Clone, Copy, Debug, PartialEq, Eq)]
+#[derive(Clone, Copy, PartialEq, Eq)]
 pub struct Slot {
     pub is_virtual: bool,
     pub overridden: Option<u32>,

@@ -2,7 +2,7 @@
 use sqlite_items::Items;
 
 /// What is decided at a site.
-#[derive(Clone, Copy, Debug, PartialEq, Eq)]
+#[derive(Clone, Copy, PartialEq, Eq)]
 pub enum SiteKind {
     Shape,
     Branch,
@@ -17,7 +17,7 @@ pub enum SiteKind {
 }
 
 /// Where an event happens, by method number and offset, and how many sides it has.
-#[derive(Clone, Copy, Debug, PartialEq, Eq)]
+#[derive(Clone, Copy, PartialEq, Eq)]
 pub struct Site {
     pub method: u32,
     pub offset: u32,
@@ -26,14 +26,14 @@ pub struct Site {
 }
 
 /// A site that a run came to, and the side that it took there, below the arity. A list of events is a path.
-#[derive(Clone, Copy, Debug, PartialEq, Eq)]
+#[derive(Clone, Copy, PartialEq, Eq)]
 pub struct Event {
     pub site: Site,
     pub side: u32,
 }
 
 /// How far a run may go: its steps, its frames and the lengths of the arrays that it makes.
-#[derive(Clone, Copy, Debug, PartialEq, Eq)]
+#[derive(Clone, Copy, PartialEq, Eq)]
 pub struct Bounds {
     pub steps: u32,
     pub depth: u32,
@@ -41,7 +41,7 @@ pub struct Bounds {
 }
 
 /// How far an exploration may go: its runs, its spent sides and the conflicts for each side.
-#[derive(Clone, Copy, Debug, PartialEq, Eq)]
+#[derive(Clone, Copy, PartialEq, Eq)]
 pub struct Limits {
     pub runs: u32,
     pub spent: u32,
@@ -52,7 +52,7 @@ pub struct Limits {
 pub type Words = Items<u64>;
 
 /// What a method returned.
-#[derive(Clone, Copy, Debug, PartialEq, Eq)]
+#[derive(Clone, Copy, PartialEq, Eq)]
 pub enum Value {
     Nothing,
     /// The pattern of an integer.
@@ -62,7 +62,7 @@ pub enum Value {
 }
 
 /// How a run ended.
-#[derive(Clone, Copy, Debug, PartialEq, Eq)]
+#[derive(Clone, Copy, PartialEq, Eq)]
 pub enum End {
     Returned(Value),
     /// An exception of the type of this number left the method.

@@ -112,6 +112,3 @@ pub fn gap(compare: Compare, a: u64, b: u64) -> u64
         distance(compare, a, b)
     }
 }
-
-#[cfg(test)]
-mod tests;

@@ -12,7 +12,7 @@ use Rattle.px_chain.proofs.Stores.{all_mapped, all_push}
 use Rattle.px_trail.specs.declared.assignment.Known.{Known}
 use Rattle.px_trail.specs.declared.outcome.Outcome.{Outcome}
 use Rattle.px_trail.specs.declared.outcome.Outcome.TheVariants.{Quiet, Conflict}
-use Rattle.px_trail.specs.Outcome.{Tells}
+use Rattle.px_trail.specs.Outcome.{IsOutcome}
 use Rattle.px_trail.specs.Trail.{GoesOn, IsQuiet, Step, View, decisions_of, known_from, known_of, next_level, value_of}
 use Rattle.px_trail.proofs.Levels.{decisions-append}
 use Rattle.px_trail.proofs.Lookups.{known-append, or_known}
@@ -38,7 +38,7 @@ last_same (a ∷ xs) (b ∷ ys) x y e =
 
 -- a decision and what follows
 pub decides_by : (old mid new : View) (x : ℕ) (decisions : List ℕ) (outcome : Outcome) → mid.steps ≡ old.steps ++ record { literal = x; reason = None } ∷ [] → GoesOn mid new
-    → decisions ≡ decisions_of old.steps ++ x ∷ [] → Tells new outcome → Decides old x new decisions outcome
+    → decisions ≡ decisions_of old.steps ++ x ∷ [] → IsOutcome new outcome → Decides old x new decisions outcome
 decides_by old mid new x decisions outcome decided on are tells = record {
   after = on.more;
   steps = on.steps ∙ ap (λ (steps : List Step). steps ++ on.more) decided ∙ append_assoc old.steps (record { literal = x; reason = None } ∷ []) on.more;
@@ -116,7 +116,7 @@ down-start old new decisions variables none on empty quiet = record {
   last = λ front last e. absurd (not_empty front last (sym empty ∙ e));
 }
 
-pub comes-start : (old new : View) (decisions : List ℕ) (number : ℕ) → decisions_of old.steps ≡ [] → GoesOn old new → decisions ≡ [] → Tells new (Conflict number) → ComesTo new decisions (Conflict number)
+pub comes-start : (old new : View) (decisions : List ℕ) (number : ℕ) → decisions_of old.steps ≡ [] → GoesOn old new → decisions ≡ [] → IsOutcome new (Conflict number) → ComesTo new decisions (Conflict number)
 comes-start old new decisions number none on empty tells = record {
   decisions_are = empty ∙ sym (undecided old new none on);
   tells = tells;

@@ -7,7 +7,7 @@ use Rattle.std.proofs.lemmas.Bool.{both_ways, cases_Bool, cond-false, cond-true,
 use Rattle.std.proofs.lemmas.List.Elements.{All-contains, All-from_recursion, Contains-append_left}
 use Rattle.px_chain.specs.declared.chain.Chain.{Chain}
 use Rattle.px_chain.specs.declared.chain.LogEntry.{LogEntry}
-use Rattle.px_chain.specs.Clause.{Ascends, Assignment, Formula, IsFormula, IsOver, MeetsAll, clause_of, complement, has, holds, is_negated, meets, variable_of}
+use Rattle.px_chain.specs.Clause.{Ascends, Valuation, Formula, IsFormula, IsOver, MeetsAll, clause_of, complement, has, holds, is_negated, meets, variable_of}
 use Rattle.px_chain.specs.Propagation.{GenuineFrom, IsGenuine}
 use Rattle.px_chain.specs.Resolution.{Derives, Refutes}
 use Rattle.px_chain.proofs.Logs.{GenuineFrom-push, grown, grown-push}
@@ -71,7 +71,7 @@ value-known None is = absurd (true≢false (sym is))
 value-known (Some k) is = (k, refl, refl)
 
 -- a literal of which the variable has its value holds
-holds-stood : (a : Assignment) (l : ℕ) → a (variable_of l) ≡ not (is_negated l) → holds a l ≡ true
+holds-stood : (a : Valuation) (l : ℕ) → a (variable_of l) ≡ not (is_negated l) → holds a l ≡ true
 holds-stood a l e =
     ⊎_elim
     (λ yes. cond-true (is_negated l) (not (a (variable_of l))) (a (variable_of l)) yes ∙ ap not (e ∙ ap not yes))
@@ -79,7 +79,7 @@ holds-stood a l e =
     (cases_Bool (is_negated l))
 
 -- a literal that doesn't hold is false on the trail
-fails-false : (v : View) (a : Assignment) (l : ℕ) → IsSome (value_of v.steps (variable_of l)) → a (variable_of l) ≡ unwrap_or (value_of v.steps (variable_of l)) false → holds a l ≡ false
+fails-false : (v : View) (a : Valuation) (l : ℕ) → IsSome (value_of v.steps (variable_of l)) → a (variable_of l) ≡ unwrap_or (value_of v.steps (variable_of l)) false → holds a l ≡ false
     → has (literals_of v.steps) (complement l) ≡ true
 fails-false v a l is same fails =
     let w = value-known (known_of v.steps (variable_of l)) is in
@@ -90,7 +90,7 @@ fails-false v a l is same fails =
     (same_variable l w.0.literal there.1)
 
 -- where nothing more follows and each variable has a value, every clause is met
-pub meets-whole : (f : Formula) (log : List LogEntry) (v : View) (a : Assignment) → IsFormula f → v.clauses ≡ grown f.clauses log → v.vars ≡ f.vars → IsQuiet v → IsWhole v
+pub meets-whole : (f : Formula) (log : List LogEntry) (v : View) (a : Valuation) → IsFormula f → v.clauses ≡ grown f.clauses log → v.vars ≡ f.vars → IsQuiet v → IsWhole v
     → ((variable : ℕ) → variable < v.vars → a variable ≡ unwrap_or (value_of v.steps variable) false) → MeetsAll a f.clauses
 meets-whole f log v a formed clauses vars quiet whole values =
     all_from_contains (λ clause. meets a clause ≡ true) f.clauses (λ clause there.

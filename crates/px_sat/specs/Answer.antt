@@ -1,13 +1,13 @@
 -- What a search for an assignment comes to.
 use Rattle.std.specs.Prelude.{◌≡◌, ◌≤◌, ℕ, List, Bool, false, length, slice_index_or}
-use Rattle.px_chain.specs.Clause.{Assignment, Formula, MeetsAll}
+use Rattle.px_chain.specs.Clause.{Valuation, Formula, MeetsAll}
 use Rattle.px_chain.specs.Propagation.{IsGenuineLog}
 use Rattle.px_chain.specs.Resolution.{Refutes}
 use Rattle.px_sat.specs.declared.answer.Answer.{Answer}
 use Rattle.px_sat.specs.declared.answer.Answer.TheVariants.{Found, Refutation, Spent}
 
 -- the assignment that a list of truth values is, the first that of variable 0
-abbrev pub assignment_of : List Bool → Assignment
+abbrev pub assignment_of : List Bool → Valuation
 assignment_of values variable = slice_index_or values variable false
 
 -- Found has a value for each variable and meets every clause. Refutation's chains refute the clauses; all chains but the last are those of the

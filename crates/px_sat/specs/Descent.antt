@@ -2,7 +2,7 @@
 use Rattle.std.specs.Prelude.{◌≡◌, ◌<◌, ℕ, List, [], ◌∷◌, ◌++◌, None, IsSome}
 use Rattle.px_trail.specs.declared.outcome.Outcome.{Outcome}
 use Rattle.px_trail.specs.declared.outcome.Outcome.TheVariants.{Quiet}
-use Rattle.px_trail.specs.Outcome.{Tells}
+use Rattle.px_trail.specs.Outcome.{IsOutcome}
 use Rattle.px_trail.specs.Trail.{IsQuiet, Step, View, decisions_of, value_of}
 
 -- The last decision was made when nothing more followed from those before it.
@@ -20,7 +20,7 @@ pub record Decides (old : View) (x : ℕ) (new : View) (decisions : List ℕ) (o
   pub steps : new.steps ≡ old.steps ++ record { literal = x; reason = None } ∷ after
   pub none_after : decisions_of after ≡ []
   pub decisions_are : decisions ≡ decisions_of old.steps ++ x ∷ []
-  pub tells : Tells new outcome
+  pub tells : IsOutcome new outcome
 
 -- every variable has a value
 abbrev pub IsWhole : View → Type 0
@@ -30,6 +30,6 @@ IsWhole v = (variable : ℕ) → variable < v.vars → IsSome (value_of v.steps 
 -- nothing more followed from those before it.
 pub record ComesTo (v : View) (decisions : List ℕ) (outcome : Outcome) : Type 0 where
   pub decisions_are : decisions ≡ decisions_of v.steps
-  pub tells : Tells v outcome
+  pub tells : IsOutcome v outcome
   pub whole : outcome ≡ Quiet → IsWhole v
   pub last : (front : List ℕ) (last : ℕ) → decisions ≡ front ++ last ∷ [] → WasQuiet v front last

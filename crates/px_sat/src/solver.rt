@@ -125,6 +125,3 @@ fn chain_of(entry: LogEntry) -> Chain
     } = entry;
     chain
 }
-
-#[cfg(test)]
-mod tests;

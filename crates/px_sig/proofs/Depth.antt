@@ -3,7 +3,7 @@ use Rattle.std.proofs.Common.{◌≡◌, ℕ, zero, suc, ◌+◌, ◌≤◌, Lis
 use Rattle.std.specs.Prelude.{nat_lt, if◌then◌else◌}
 use Rattle.std.proofs.lemmas.Bool.{le-ltb}
 use Rattle.px_blobs.specs.Items.{Compressed, compressed_at}
-use Rattle.px_sig.specs.Reading.{Read, ◌>>=◌}
+use Rattle.px_reading.specs.Reading.{Read, ◌>>=◌}
 use Rattle.px_sig.specs.Grammar.{byte_at, byte_where, form_at, form_of, front_at, generic_at, is_generic, is_kind, is_named, known, many, method_at, nested_type_at, number_at, number_behind, numbers_at, other, shape_at, token_at, token_of, type_at, type_behind}
 use Rattle.px_sig.specs.declared.form.Form.{Form}
 use Rattle.px_sig.specs.declared.form.Form.TheVariants.{Alone, Class, Value, Variable, Modifier, Pinned, Array, Outer, General, Instance, Function}

@@ -1,6 +1,6 @@
 -- The type that stands behind modifiers and in arrays.
 use Rattle.std.proofs.Common.{◌≡◌, ◌≢◌, ℕ, suc, ◌+◌, List, Result, Ok, Err, refl, ap, ◌∙◌, arith}
-use Rattle.px_sig.specs.Reading.{Read, ◌>>=◌}
+use Rattle.px_reading.specs.Reading.{Read, ◌>>=◌}
 use Rattle.px_sig.specs.Grammar.{form_at, token_at, type_at, type_behind}
 use Rattle.px_sig.specs.Parts.{FailsAt, IsInner, within}
 use Rattle.px_sig.specs.declared.fault.SigFault.{SigFault}

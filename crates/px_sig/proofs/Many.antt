@@ -1,6 +1,6 @@
 -- Readings that follow each other.
 use Rattle.std.proofs.Common.{◌≡◌, ℕ, zero, suc, ◌+◌, ◌-◌, ◌<◌, List, [], ◌∷◌, ◌++◌, Result, Ok, Err, refl, sym, ap, ◌∙◌, arith, append_assoc}
-use Rattle.px_sig.specs.Reading.{Read, ◌>>=◌}
+use Rattle.px_reading.specs.Reading.{Read, ◌>>=◌}
 use Rattle.px_sig.specs.Grammar.{many}
 use Rattle.px_sig.specs.Parts.{behind, times}
 

@@ -1,6 +1,6 @@
 -- What is owed behind the first bytes of generic types and of function pointers leads to their end.
 use Rattle.std.proofs.Common.{◌≡◌, ℕ, suc, ◌+◌, List, Result, Ok, Err, false, refl, sym, ◌∙◌, arith}
-use Rattle.px_sig.specs.Reading.{Read, ◌>>=◌}
+use Rattle.px_reading.specs.Reading.{Read, ◌>>=◌}
 use Rattle.px_sig.specs.Grammar.{Front, byte_where, front_at, is_named, many, method_at, number_at, other, token_at, type_at, type_behind}
 use Rattle.px_sig.specs.Parts.{behind, behind_owed, behind_type, times}
 use Rattle.px_sig.specs.declared.form.Form.TheVariants.{Instance, Function}

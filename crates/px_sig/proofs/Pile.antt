@@ -1,7 +1,8 @@
 -- What is owed on a pile, and how a step changes it.
 use Rattle.std.proofs.Common.{◌≡◌, ℕ, suc, List, [], ◌∷◌, ◌++◌, Result, Ok, Err, true, false, refl, sym, ap, ◌∙◌}
 use Rattle.std.specs.Prelude.{if◌then◌else◌}
-use Rattle.px_sig.specs.Reading.{Read, ◌>>=◌, Fails}
+use Rattle.px_sig.specs.Reading.{Fails}
+use Rattle.px_reading.specs.Reading.{Read, ◌>>=◌}
 use Rattle.px_sig.specs.Grammar.{form_at, shape_at, type_at, type_behind}
 use Rattle.px_sig.specs.Parts.{FailsAt, behind, behind_all, behind_both, behind_owed, behind_type, times}
 use Rattle.px_sig.specs.declared.fault.SigFault.{SigFault}

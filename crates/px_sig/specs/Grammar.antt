@@ -3,7 +3,7 @@
 -- that of a byte, of the first byte of a number or token, or the length where something is missing.
 use Rattle.std.specs.Prelude.{ℕ, zero, suc, ◌+◌, ◌*◌, ◌/◌, ◌%◌, ◌^◌, ◌==◌, ◌&&◌, ◌||◌, not, nat_lt, bit_and, if◌then◌else◌, Bool, List, [], ◌∷◌, length, slice_index, Option, Some, None, Result, Ok, Err}
 use Rattle.px_blobs.specs.Items.{Compressed, compressed_at}
-use Rattle.px_sig.specs.Reading.{Read, ◌>>=◌}
+use Rattle.px_reading.specs.Reading.{Read, ◌>>=◌}
 use Rattle.px_sig.specs.declared.form.Form.{Form}
 use Rattle.px_sig.specs.declared.form.Form.TheVariants as forms
 use Rattle.px_sig.specs.declared.sig.Integer.TheVariants as integers

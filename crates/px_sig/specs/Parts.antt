@@ -1,6 +1,7 @@
 -- What the parts of the reader promise each other.
 use Rattle.std.specs.Prelude.{◌≡◌, ℕ, zero, suc, ◌==◌, length, if◌then◌else◌, List, [], ◌∷◌, Result, Ok, Err}
-use Rattle.px_sig.specs.Reading.{Read, ◌>>=◌, Fails}
+use Rattle.px_sig.specs.Reading.{Fails}
+use Rattle.px_reading.specs.Reading.{Read, ◌>>=◌}
 use Rattle.px_sig.specs.Grammar.{Front, shape_at, type_at, type_behind}
 use Rattle.px_sig.specs.declared.cursor.Front as front
 use Rattle.px_sig.specs.declared.fault.SigFault.{SigFault}

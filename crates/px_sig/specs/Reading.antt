@@ -3,17 +3,6 @@ use Rattle.std.specs.Prelude.{◌≡◌, ℕ, Result, Ok, Err}
 use Rattle.px_sig.specs.declared.fault.SigFault.{SigFault}
 use Rattle.px_sig.specs.declared.fault.SigFault.TheVariants as faults
 
--- what is read, and the place behind it
-pub record Read (X : Type 0) : Type 0 where
-  pub value : X
-  pub end : ℕ
-
--- the second reading goes on with what the first gives; a fault is its place in the blob
-infixl 10 ◌>>=◌
-abbrev pub ◌>>=◌ : {A B : Type 0} → Result A ℕ → (A → Result B ℕ) → Result B ℕ
-(Ok x) >>= f = f x
-(Err at) >>= f = Err at
-
 -- the fault is that of the reading, or want of memory
 abbrev pub Fails : {X : Type 0} → SigFault → Result X ℕ → Type 0
 Fails faults.Memory read = Unit {0}

@@ -17,7 +17,7 @@ pub(crate) struct Cursor<'b> {
 }
 
 // What stands before the return type of a method.
-#[derive(Clone, Copy, Debug)]
+#[derive(Clone, Copy)]
 pub(crate) struct Front {
     pub has_this: bool,
     pub plain: bool,
@@ -49,6 +49,7 @@ fn is_kind(byte: u8) -> bool
 }
 
 impl<'b> Cursor<'b> {
+    /// A cursor at the first byte of the blob.
     pub fn new(blob: &'b [u8]) -> Cursor<'b>
         requires { length blob.now < 2 ^ 31 }
         ensures blob { result.blob.now ≡ blob.now }
@@ -73,7 +74,7 @@ impl<'b> Cursor<'b> {
         }
     }
 
-    // The byte with which a signature begins.
+    /// The byte with which a signature begins.
     #[tactic(auto, unfolding(crate::specs::Grammar::byte_where))]
     pub fn expect(&mut self, wanted: u8) -> Result<u8, SigFault>
         ensures reads { Reads result self.new.at (byte_where (λ byte. byte == wanted) self.old.blob.now self.old.at) }
@@ -88,7 +89,7 @@ impl<'b> Cursor<'b> {
         }
     }
 
-    // A number.
+    /// A number.
     #[tactic(auto, unfolding(crate::specs::Grammar::number_at))]
     pub fn number(&mut self) -> Result<u32, SigFault>
         ensures reads { Reads result self.new.at (number_at self.old.blob.now self.old.at) }
@@ -104,7 +105,7 @@ impl<'b> Cursor<'b> {
         }
     }
 
-    // A token.
+    /// A token.
     #[tactic(auto, unfolding(crate::specs::Grammar::token_at))]
     pub fn token(&mut self) -> Result<u32, SigFault>
         ensures reads { Reads result self.new.at (token_at self.old.blob.now self.old.at) }
@@ -116,7 +117,7 @@ impl<'b> Cursor<'b> {
         token_of(index).ok_or(SigFault::Bad { at })
     }
 
-    // The form of a type, by its first byte.
+    /// The form of a type, by its first byte.
     #[tactic(auto, unfolding(crate::specs::Grammar::form_at))]
     pub fn form(&mut self) -> Result<Form, SigFault>
         ensures reads { Reads result self.new.at (form_at self.old.blob.now self.old.at) }
@@ -173,7 +174,7 @@ impl<'b> Cursor<'b> {
         Ok(())
     }
 
-    // What stands before the return type of a method.
+    /// What stands before the return type of a method.
     #[tactic(auto, unfolding(crate::specs::Grammar::front_at))]
     pub fn front(&mut self) -> Result<Front, SigFault>
         ensures reads { Reads (shown result) self.new.at (front_at self.old.blob.now self.old.at) }
@@ -203,7 +204,7 @@ impl<'b> Cursor<'b> {
         Ok(())
     }
 
-    // Passes over the shape of an array.
+    /// Passes over the shape of an array.
     #[tactic(auto, unfolding(crate::specs::Grammar::shape_at))]
     pub fn shape(&mut self) -> Result<(), SigFault>
         ensures passes { Passes result self.new.at (shape_at self.old.blob.now self.old.at) }
@@ -215,7 +216,7 @@ impl<'b> Cursor<'b> {
         self.numbers()
     }
 
-    // What is owed behind the first byte of a type.
+    /// What is owed behind the first byte of a type.
     #[tactic(auto, unfolding(crate::specs::Grammar::type_behind, crate::specs::Grammar::method_at, crate::specs::Parts::behind_owed))]
     pub fn owes(&mut self, form: &Form) -> Result<Owes, SigFault>
         ensures leads { Leads self.old.blob.now result self.new.at (type_behind (type_at self.old.blob.now) self.old.blob.now form.now self.old.at) }
@@ -254,7 +255,7 @@ impl<'b> Cursor<'b> {
         }
     }
 
-    // That nothing is left.
+    /// That nothing is left.
     pub fn end(&self) -> Result<(), SigFault>
         ensures { Passes result self.now.at (end_at self.now.blob.now self.now.at) }
     {

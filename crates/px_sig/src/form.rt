@@ -5,7 +5,7 @@ ghost use Rattle.px_sig.specs.Grammar.{form_of};
 use crate::sig::{Integer, SigType};
 
 /// What stands behind the code that a type begins with.
-#[derive(Debug, Drop)]
+#[derive(Drop)]
 pub enum Form {
     /// Nothing: the code alone is the type.
     Alone(SigType),
@@ -32,14 +32,14 @@ pub enum Form {
 }
 
 /// What a form leaves to be passed over: so many types, and behind them perhaps the shape of an array.
-#[derive(Clone, Copy, Debug)]
+#[derive(Clone, Copy)]
 pub struct Owes {
     pub types: u64,
     pub shape: bool,
 }
 
 impl Owes {
-    // So many types and nothing else.
+    /// So many types and nothing else.
     pub fn types(count: u64) -> Owes
         ensures { result ≡ record { types = count; shape = false } }
     {
@@ -50,7 +50,7 @@ impl Owes {
     }
 }
 
-// The form of the types that begin with the code.
+/// The form of the types that begin with the code.
 #[tactic(auto, unfolding(crate::specs::Grammar::form_of))]
 pub fn form_of(code: u8) -> Option<Form>
     ensures { result ≡ form_of code }

@@ -7,8 +7,6 @@ mod form;
 mod read;
 mod same;
 mod sig;
-#[cfg(test)]
-mod tests;
 mod types;
 
 pub use fault::SigFault;

@@ -2,7 +2,7 @@
 use sqlite_items::{Boxed, Items};
 
 /// An integer type: Partition I, 8.2.2.
-#[derive(Clone, Copy, Debug, PartialEq, Eq)]
+#[derive(Clone, Copy, PartialEq, Eq)]
 pub enum Integer {
     Bool,
     Char,
@@ -20,7 +20,6 @@ pub enum Integer {
 }
 
 /// A type as a signature spells it: Partition II, 23.2.12.
-#[derive(Debug)]
 pub enum SigType {
     Void,
     Int(Integer),
@@ -49,7 +48,7 @@ impl Drop for SigType {
 
 /// The signature of a method: Partition II, 23.2.1 to 23.2.3. `has_this` says that it has a receiver, which isn't among its parameters.
 /// `plain` is false where it has type parameters or a variable list of arguments, or states the receiver's type.
-#[derive(Debug, Drop)]
+#[derive(Drop)]
 pub struct MethodSig {
     pub has_this: bool,
     pub plain: bool,

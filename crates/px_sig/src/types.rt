@@ -107,7 +107,7 @@ impl Cursor<'_> {
         }
     }
 
-    // A type.
+    /// A type.
     pub fn sig_type(&mut self, alloc: Global) -> Result<SigType, SigFault>
         ensures makes { Makes result self.new.at (type_at self.old.blob.now self.old.at) }
         ensures blob { self.new.blob.now ≡ self.old.blob.now }
@@ -117,7 +117,7 @@ impl Cursor<'_> {
         arrays_of(alloc, arrays, inner)
     }
 
-    // So many types.
+    /// So many types.
     pub fn types(&mut self, alloc: Global, count: u32) -> Result<Items<SigType>, SigFault>
         ensures makes { Makes result self.new.at (many (type_at self.old.blob.now) count self.old.at) }
         ensures blob { self.new.blob.now ≡ self.old.blob.now }
@@ -129,7 +129,7 @@ impl Cursor<'_> {
         Ok(Items::from_vec(types))
     }
 
-    // The signature of a method.
+    /// The signature of a method.
     #[tactic(auto, unfolding(crate::specs::Grammar::method_at))]
     pub fn method(&mut self, alloc: Global) -> Result<MethodSig, SigFault>
         ensures makes { Makes result self.new.at (method_at (type_at self.old.blob.now) self.old.blob.now self.old.at) }

@@ -4,7 +4,8 @@ use Rattle.std.proofs.lemmas.List.{take_all, take_more, take_more_set}
 use Rattle.px_tables.specs.declared.fault.TableFault.{TableFault}
 use Rattle.px_tables.specs.Counts.{has_bit}
 use Rattle.px_tables.specs.Metadata.{counts_at}
-use Rattle.px_tables.specs.Reading.{Part, ◌>>=◌, read_number}
+use Rattle.px_tables.specs.Reading.{Part, read_number}
+use Rattle.px_reading.specs.Reading.{◌>>=◌}
 
 -- the counts so far before those that are left
 abbrev pub with_front : List ℕ → Result (List ℕ × ℕ) TableFault → Result (List ℕ × ℕ) TableFault

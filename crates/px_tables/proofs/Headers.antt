@@ -7,7 +7,8 @@ use Rattle.std.proofs.lemmas.Bool.{cases_lt, lt-ltb, le-ltb}
 use Rattle.px_tables.specs.declared.fault.TableFault.{TableFault}
 use Rattle.px_tables.specs.declared.streams.Found.{Found}
 use Rattle.px_tables.specs.declared.streams.Root.{Root}
-use Rattle.px_tables.specs.Reading.{Part, ◌>>=◌}
+use Rattle.px_tables.specs.Reading.{Part}
+use Rattle.px_reading.specs.Reading.{◌>>=◌}
 use Rattle.px_tables.specs.Streams.{Stream, behind, found_in, found_of, named, or_earlier, padded, stream_at, streams_at, with_stream}
 
 bound : (p : ℕ → Bool) (xs : List ℕ) → position_or_len p xs ≤ length xs

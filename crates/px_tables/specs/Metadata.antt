@@ -12,7 +12,8 @@ use Rattle.px_tables.specs.declared.header.Header.{Header}
 use Rattle.px_tables.specs.declared.streams.Streams.{Streams}
 use Rattle.px_tables.specs.Columns.{columns_of}
 use Rattle.px_tables.specs.Counts.{has_bit, is_bad, rows_of}
-use Rattle.px_tables.specs.Reading.{Part, fault, ◌>>=◌, read_number}
+use Rattle.px_tables.specs.Reading.{Part, fault, read_number}
+use Rattle.px_reading.specs.Reading.{◌>>=◌}
 use Rattle.px_tables.specs.Rows.{Rows, cut_of, first_bad, has_indexes_looked_at, row_of}
 use Rattle.px_tables.specs.Streams.{found_in, root_of, streams_of}
 

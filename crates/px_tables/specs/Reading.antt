@@ -1,6 +1,7 @@
 -- Reads that may fail: the first fault is the answer.
 use Rattle.std.specs.Prelude.{ℕ, ◌+◌, nat_lt, List, length, take, drop, if◌then◌else◌, Result, Ok, Err}
 use Rattle.byteorder.specs.Endian.{little_number}
+use Rattle.px_reading.specs.Reading.{◌>>=◌}
 use Rattle.px_tables.specs.declared.fault.TableFault.{TableFault}
 use Rattle.px_tables.specs.declared.fault.TableKind.{TableKind}
 use Rattle.px_tables.specs.declared.fault.TableKind.TheVariants.{Cut}
@@ -8,12 +9,6 @@ use Rattle.px_tables.specs.declared.fault.TableKind.TheVariants.{Cut}
 -- what is wrong, and at which byte of the metadata
 abbrev pub fault : TableKind → ℕ → TableFault
 fault kind at = record { kind = kind; at = at }
-
--- the second reading goes on with what the first gives
-infixl 10 ◌>>=◌
-abbrev pub ◌>>=◌ : {A B : Type 0} → Result A TableFault → (A → Result B TableFault) → Result B TableFault
-(Ok x) >>= f = f x
-(Err e) >>= f = Err e
 
 -- a part of the metadata, and where in it the part begins
 pub record Part : Type 0 where

@@ -7,7 +7,8 @@ use Rattle.px_tables.specs.declared.fault.TableKind.TheVariants.{BadRoot, Cut, N
 use Rattle.px_tables.specs.declared.streams.Found.{Found}
 use Rattle.px_tables.specs.declared.streams.Root.{Root}
 use Rattle.px_tables.specs.declared.streams.Streams.{Streams}
-use Rattle.px_tables.specs.Reading.{Part, fault, ◌>>=◌, read_bytes, read_number, slice_of}
+use Rattle.px_tables.specs.Reading.{Part, fault, read_bytes, read_number, slice_of}
+use Rattle.px_reading.specs.Reading.{◌>>=◌}
 
 -- all of the metadata as a part of itself
 abbrev pub whole : List ℕ → Part

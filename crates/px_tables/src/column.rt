@@ -3,7 +3,7 @@ ghost use Rattle.std.specs.Prelude.{◌≡◌, ◌≤◌, length};
 ghost use Rattle.px_tables.specs.Columns.{columns_of, table_named, tables_named, tag_bits};
 
 /// A heap of the metadata: Partition II, 24.2.3 to 24.2.5.
-#[derive(Clone, Copy, Debug, PartialEq, Eq)]
+#[derive(Clone, Copy, PartialEq, Eq)]
 pub enum Heap {
     Strings,
     UserStrings,
@@ -12,7 +12,7 @@ pub enum Heap {
 }
 
 /// A coded index, by the tables that it may name: Partition II, 24.2.6.
-#[derive(Clone, Copy, Debug, PartialEq, Eq)]
+#[derive(Clone, Copy, PartialEq, Eq)]
 pub enum CodedIndex {
     TypeDefOrRef,
     HasConstant,
@@ -107,7 +107,7 @@ impl CodedIndex {
 }
 
 /// What a column holds.
-#[derive(Clone, Copy, Debug, PartialEq, Eq)]
+#[derive(Clone, Copy, PartialEq, Eq)]
 pub enum Column {
     /// A number of one byte.
     U8,

@@ -6,7 +6,7 @@ ghost use Rattle.px_tables.specs.Counts.{coded_index_size, column_size, has_bit,
 use crate::column::{CodedIndex, Column, columns};
 
 /// How many rows each table has, by its number, and by bits which heaps have wide indexes.
-#[derive(Clone, Copy, Debug)]
+#[derive(Clone, Copy)]
 pub struct Counts {
     pub heap_sizes: u8,
     pub rows: [u32; 64],

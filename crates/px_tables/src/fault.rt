@@ -2,7 +2,7 @@
 ghost use Rattle.std.specs.Prelude.{◌≡◌, ◌<◌, ◌^◌};
 
 /// What is wrong with metadata.
-#[derive(Clone, Copy, Debug, PartialEq, Eq)]
+#[derive(Clone, Copy, PartialEq, Eq)]
 pub enum TableKind {
     /// It doesn't begin with its signature.
     BadRoot,
@@ -19,7 +19,7 @@ pub enum TableKind {
 }
 
 /// The first thing that is wrong with metadata, and the byte of it at which it is.
-#[derive(Clone, Copy, Debug, PartialEq, Eq)]
+#[derive(Clone, Copy, PartialEq, Eq)]
 pub struct TableFault {
     pub kind: TableKind,
     pub at: u32,

@@ -9,8 +9,6 @@ mod part;
 mod rows;
 mod streams;
 mod tables;
-#[cfg(test)]
-mod tests;
 
 pub use column::{CodedIndex, Column, Heap, columns};
 pub use counts::Counts;

@@ -7,7 +7,7 @@ use byteorder::{ByteOrder, LittleEndian};
 use std::marker::Model;
 
 /// A part of the metadata, and where in it the part begins.
-#[derive(Debug, Drop)]
+#[derive(Drop)]
 pub struct Part<'a> {
     start: usize,
     bytes: &'a [u8],

@@ -21,7 +21,7 @@ pub fn has_indexes_looked_at(table: u8) -> bool
 }
 
 /// The rows of all tables, one table after the other. They lie whole within the bytes.
-#[derive(Debug, Drop)]
+#[derive(Drop)]
 pub struct Rows<'a> {
     counts: Counts,
     starts: [usize; 64],

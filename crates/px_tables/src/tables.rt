@@ -13,13 +13,13 @@ use crate::streams::{Found, root_of};
 use std::marker::Model;
 
 /// A row of a table: the numbers in its columns as they stand, and zeros up to nine.
-#[derive(Clone, Copy, Debug, PartialEq, Eq)]
+#[derive(Clone, Copy, PartialEq, Eq)]
 pub struct Row {
     pub cells: [u32; 9],
 }
 
 /// The tables and heaps of metadata. Nothing is copied. A heap that is missing is empty.
-#[derive(Debug, Drop)]
+#[derive(Drop)]
 pub struct Tables<'a> {
     rows: Rows<'a>,
     strings: &'a [u8],

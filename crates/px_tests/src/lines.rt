@@ -37,6 +37,7 @@ fn put_method<O: Sink>(out: &mut O, name: &str) -> Result<(), Stopped>
     )
 }
 
+/// Writes the line of what was explored.
 pub fn put_input<O: Sink>(out: &mut O, input: &Input) -> Result<(), Stopped>
     ensures { Puts O.written O.faults out.old (input_text input.now) out.new result }
 {
@@ -46,6 +47,7 @@ pub fn put_input<O: Sink>(out: &mut O, input: &Input) -> Result<(), Stopped>
     }
 }
 
+/// Writes the line of the bounds of a run.
 #[tactic(auto, unfolding(crate::specs::Text::bounds_text))]
 pub fn put_bounds<O: Sink>(out: &mut O, bounds: Bounds) -> Result<(), Stopped>
     ensures { Puts O.written O.faults out.old (bounds_text bounds) out.new result }
@@ -64,6 +66,7 @@ pub fn put_bounds<O: Sink>(out: &mut O, bounds: Bounds) -> Result<(), Stopped>
     )
 }
 
+/// Writes the line of the limits of the exploration.
 #[tactic(auto, unfolding(crate::specs::Text::limits_text))]
 pub fn put_limits<O: Sink>(out: &mut O, limits: Limits) -> Result<(), Stopped>
     ensures { Puts O.written O.faults out.old (limits_text limits) out.new result }
@@ -162,6 +165,7 @@ fn put_path_mark<O: Sink>(out: &mut O) -> Result<(), Stopped>
     put_pieces(out, &[Text(" path ")])
 }
 
+/// Writes the path of a test, with the word before it.
 #[tactic(auto, using(px_io::proofs::Putting::writing), unfolding(crate::specs::Text::path_part))]
 pub fn put_path_part<O: Sink>(out: &mut O, events: &[Event]) -> Result<(), Stopped>
     ensures { Puts O.written O.faults out.old (path_part events.now) out.new result }
@@ -170,6 +174,7 @@ pub fn put_path_part<O: Sink>(out: &mut O, events: &[Event]) -> Result<(), Stopp
     put_path(out, events)
 }
 
+/// Writes the word with which the line of a test begins, and its number.
 #[tactic(auto, unfolding(crate::specs::Text::test_head))]
 pub fn put_test_head<O: Sink>(out: &mut O, number: u64) -> Result<(), Stopped>
     ensures { Puts O.written O.faults out.old (test_head number) out.new result }
@@ -254,6 +259,7 @@ fn put_counts_line<O: Sink>(
     )
 }
 
+/// Writes the last line, which counts the tests and their sides.
 pub fn put_counts<O: Sink>(out: &mut O, records: &[Record], refuted: u64) -> Result<(), Stopped>
     ensures { Puts O.written O.faults out.old (counts_text records.now refuted) out.new result }
 {

@@ -5,7 +5,7 @@ use Rattle.px_trail.specs.declared.outcome.Outcome.{Outcome}
 use Rattle.px_trail.specs.declared.propagation.Found.{Found}
 use Rattle.px_trail.specs.declared.propagation.Found.TheVariants as found
 use Rattle.px_trail.specs.Assignment.{StepsOver}
-use Rattle.px_trail.specs.Outcome.{Tells}
+use Rattle.px_trail.specs.Outcome.{IsOutcome}
 use Rattle.px_trail.specs.Trail.{AllFalse, IsFalseClause, IsUnit, View, literals_of}
 
 -- the trail of an assignment over clauses
@@ -35,4 +35,4 @@ Visits old new number found.Settled = (new.steps ≡ old.steps) × SettledAt new
 
 -- a round over all clauses: something was assigned, or that is what propagation comes to
 abbrev pub Rounds : View → View → Option Outcome → Type 0
-Rounds old new outcome = MatchOption outcome (length old.steps < length new.steps) (Tells new)
+Rounds old new outcome = MatchOption outcome (length old.steps < length new.steps) (IsOutcome new)

@@ -19,7 +19,7 @@ pub struct Known {
 
 /// An assignment, seen as its steps.
 #[derive(Drop)]
-pub struct Assignment {
+pub struct PartialAssignment {
     literals: Vec<Lit>,
     // by variable
     table: Vec<Option<Known>>,
@@ -27,7 +27,7 @@ pub struct Assignment {
     decided: u32,
 }
 
-impl Model for Assignment {
+impl Model for PartialAssignment {
     ghost use Rattle.std.specs.Prelude.{length, vec_capacity};
     ghost use Rattle.px_trail.specs.Assignment.{IsKept, StepsOver, steps_in};
 
@@ -38,14 +38,14 @@ impl Model for Assignment {
     ghost invariant = { λ a. IsKept (vec_capacity a.literals) a.table.items a.literals.items a.decided };
 }
 
-impl Assignment {
+impl PartialAssignment {
     /// Nothing is assigned. Room for a step a variable is reserved.
-    pub fn new(alloc: Global, vars: u32) -> Result<Assignment, AllocError>
+    pub fn new(alloc: Global, vars: u32) -> Result<PartialAssignment, AllocError>
         ensures vars { IfOk result (λ a. a.vars ≡ vars) }
         ensures steps { IfOk result (λ a. a.steps ≡ []) }
     {
         let count = vars as usize;
-        Ok(Assignment {
+        Ok(PartialAssignment {
             literals: Vec::with_capacity(alloc, count)?,
             table: vec![in alloc; None; count]?,
             decided: 0,

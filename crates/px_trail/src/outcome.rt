@@ -1,7 +1,7 @@
 // What propagation comes to.
 
 /// What propagation comes to.
-#[derive(Clone, Copy, Debug, PartialEq, Eq)]
+#[derive(Clone, Copy, PartialEq, Eq)]
 pub enum Outcome {
     /// Nothing more follows, and no clause is false.
     Quiet,

@@ -1,11 +1,11 @@
 // Unit propagation over all clauses in turn, until nothing changes.
 ghost use Rattle.std.specs.Prelude.{◌≡◌, ◌<◌, length};
 ghost use Rattle.px_chain.specs.Clause.{IsOver};
-ghost use Rattle.px_trail.specs.Outcome.{Tells};
+ghost use Rattle.px_trail.specs.Outcome.{IsOutcome};
 ghost use Rattle.px_trail.specs.Propagation.{Rounds, Shows, Visits, trail_of};
 ghost use Rattle.px_trail.specs.Trail.{GoesOn, IsTrail, literals_of};
 
-use crate::assignment::Assignment;
+use crate::assignment::PartialAssignment;
 use crate::outcome::Outcome;
 use px_chain::{Lit, Premises};
 
@@ -21,7 +21,7 @@ pub enum Found {
 }
 
 // Looks at a clause.
-fn scan(assignment: &Assignment, clause: &[Lit]) -> Found
+fn scan(assignment: &PartialAssignment, clause: &[Lit]) -> Found
     ensures { Shows (literals_of assignment.now.steps) clause.now result }
 {
     let mut last = None;
@@ -47,7 +47,7 @@ fn scan(assignment: &Assignment, clause: &[Lit]) -> Found
 }
 
 // Looks at the clause of a number, and assigns the literal that follows.
-fn visit(premises: &Premises, assignment: &mut Assignment, number: u64) -> Found
+fn visit(premises: &Premises, assignment: &mut PartialAssignment, number: u64) -> Found
     requires there { number < length premises.now.clauses }
     requires vars { assignment.old.vars ≡ premises.now.vars }
     requires trail { IsTrail (trail_of premises.now assignment.old) }
@@ -63,7 +63,7 @@ fn visit(premises: &Premises, assignment: &mut Assignment, number: u64) -> Found
 }
 
 // Looks at each clause once, until one is false. Answers nothing where a literal was assigned and none is false: then more may follow.
-fn round(premises: &Premises, assignment: &mut Assignment) -> Option<Outcome>
+fn round(premises: &Premises, assignment: &mut PartialAssignment) -> Option<Outcome>
     requires vars { assignment.old.vars ≡ premises.now.vars }
     requires trail { IsTrail (trail_of premises.now assignment.old) }
     ensures goes_on { GoesOn (trail_of premises.now assignment.old) (trail_of premises.now assignment.new) }
@@ -82,12 +82,12 @@ fn round(premises: &Premises, assignment: &mut Assignment) -> Option<Outcome>
 }
 
 /// Assigns what follows from the decisions.
-pub fn propagate(premises: &Premises, assignment: &mut Assignment) -> Outcome
+pub fn propagate(premises: &Premises, assignment: &mut PartialAssignment) -> Outcome
     requires vars { assignment.old.vars ≡ premises.now.vars }
     requires trail { IsTrail (trail_of premises.now assignment.old) }
     ensures goes_on { GoesOn (trail_of premises.now assignment.old) (trail_of premises.now assignment.new) }
     ensures trail { IsTrail (trail_of premises.now assignment.new) }
-    ensures outcome { Tells (trail_of premises.now assignment.new) result }
+    ensures outcome { IsOutcome (trail_of premises.now assignment.new) result }
 {
     loop {
         if let Some(outcome) = round(premises, assignment) {

@@ -2,9 +2,9 @@
 ghost use Rattle.std.specs.Prelude.{◌≡◌, ◌≤◌, ◌<◌, ◌^◌, ◌+◌, [], ◌∷◌, ◌++◌, None, Some, length, slice_get, OnErr, OnOk, IfOk, IfSome};
 ghost use Rattle.px_chain.specs.Clause.{Ascends, IsOver, clause_of, is_negated, variable_of};
 ghost use Rattle.px_trail.specs.Trail.{Explains, GoesOn, IsTrail, decisions_of, level_of, literals_of, reason_of, up_to, value_of};
-ghost use Rattle.px_trail.specs.Outcome.{Tells};
+ghost use Rattle.px_trail.specs.Outcome.{IsOutcome};
 
-use crate::assignment::Assignment;
+use crate::assignment::PartialAssignment;
 use crate::outcome::Outcome;
 use crate::propagation;
 use px_chain::{Cnf, Lit, Premises};
@@ -15,7 +15,7 @@ use std::marker::Model;
 #[derive(Drop)]
 pub struct Trail<'a> {
     premises: Premises<'a>,
-    assignment: Assignment,
+    assignment: PartialAssignment,
 }
 
 impl<'a> Model for Trail<'a> {
@@ -37,7 +37,7 @@ impl<'a> Trail<'a> {
         ensures clauses { IfOk result (λ trail. trail.clauses ≡ cnf.entry.now.clauses) }
         ensures steps { IfOk result (λ trail. trail.steps ≡ []) }
     {
-        let assignment = Assignment::new(alloc, cnf.vars())?;
+        let assignment = PartialAssignment::new(alloc, cnf.vars())?;
         Ok(Trail {
             premises: Premises::new(alloc, cnf),
             assignment,
@@ -96,7 +96,7 @@ impl<'a> Trail<'a> {
     /// a conflict; then no clause has all literals but one false and that one unassigned. Conflict names a clause that is false.
     pub fn propagate(&mut self) -> Outcome
         ensures goes_on { GoesOn self.old self.new }
-        ensures outcome { Tells self.new result }
+        ensures outcome { IsOutcome self.new result }
     {
         propagation::propagate(&self.premises, &mut self.assignment)
     }
@@ -152,6 +152,3 @@ fn is_negated(l: Lit) -> bool
 {
     l % 2 == 1
 }
-
-#[cfg(test)]
-mod tests;

@@ -9,7 +9,7 @@ use px_program::{Event, Record};
 use std::alloc::{AllocError, Global};
 
 /// A side of a node of the tree: the node is the first `depth` events of the path of the record that made it, numbered `maker`.
-#[derive(Clone, Copy, Debug, PartialEq, Eq)]
+#[derive(Clone, Copy, PartialEq, Eq)]
 pub struct Side {
     pub maker: u32,
     pub depth: u32,
@@ -180,6 +180,3 @@ pub fn untaken_sides(alloc: Global, records: &[Record]) -> Result<Vec<Side>, All
     }
     Ok(out)
 }
-
-#[cfg(test)]
-mod tests;

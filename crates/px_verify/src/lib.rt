@@ -4,8 +4,6 @@
 mod offsets;
 mod rows;
 mod simple_methods;
-#[cfg(test)]
-mod tests;
 mod verified;
 
 pub use offsets::instr_at;

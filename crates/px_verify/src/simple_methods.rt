@@ -12,7 +12,7 @@ use px_program::{Instr, Method, Program};
 use std::alloc::{AllocError, Global};
 
 /// Why a program isn't accepted: want of memory, or the first fault.
-#[derive(Clone, Copy, Debug, PartialEq, Eq)]
+#[derive(Clone, Copy, PartialEq, Eq)]
 pub enum SimpleFault {
     Memory,
     /// The offset of the entry's first instruction that may not stand there: one that isn't run, an `ldarg` of no int32

@@ -10,8 +10,6 @@ mod division;
 mod extension;
 mod overflow;
 mod shift;
-#[cfg(test)]
-mod tests;
 mod width;
 
 use arithmetic::{difference, negated, product, sum};
@@ -29,7 +27,7 @@ use width::{complement, signed};
 /// An operand is a pattern of that width, also the count of a shift, but for those of an extension and the first of `Ite`.
 /// The result is a pattern of that width too, but for that of a test and of `Low`, which has 32 bits.
 /// Signed operators read a pattern in two's complement. Sections are those of Partition III, as III.3.1.
-#[derive(Clone, Copy, Debug, PartialEq, Eq)]
+#[derive(Clone, Copy, PartialEq, Eq)]
 pub enum Op {
     /// The pattern itself, which lies in the width.
     Const { wide: bool, pattern: u64 },

@@ -1,5 +1,5 @@
 use Rattle.std.proofs.Common.{rules}
-use Rattle.px_relink.proofs.Writing.{linked_is_writable}
+use Rattle.px_asm_law_relink.proofs.Writing.{linked_is_writable}
 use Rattle.px_asm.proofs.Assembled.{assembled_of}
 use Rattle.px_asm.proofs.assembly.write_assembly.Goals as goal
 

@@ -1,6 +1,6 @@
-use Rattle.px_asm.specs.Tables.{HasAddress}
-use Rattle.px_asm.proofs.TableFacts.{zipped_at}
-use Rattle.px_asm.proofs.TableStays.{table_stays_address}
+use Rattle.px_asm_rows.specs.Tables.{HasAddress}
+use Rattle.px_asm_rows.proofs.TableFacts.{zipped_at}
+use Rattle.px_asm_rows.proofs.TableStays.{table_stays_address}
 use Rattle.px_asm.proofs.methods.addresses_of.Goals as goal
 
 pub loop-number-preserved : goal.loop-number-preserved

@@ -1,7 +1,7 @@
 use Rattle.std.proofs.Common.{take}
 use Rattle.std.specs.List.{AllZip}
-use Rattle.px_asm.specs.Tables.{HasAddress}
-use Rattle.px_written.specs.Store.{AreReferences}
+use Rattle.px_asm_rows.specs.Tables.{HasAddress}
+use Rattle.px_asm_law_written.specs.Store.{AreReferences}
 use Rattle.px_asm.proofs.methods.addresses_of.Given as goal
 
 abbrev pub invariant-loop-number : goal.invariant-loop-number

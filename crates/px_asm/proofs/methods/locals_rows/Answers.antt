@@ -1,7 +1,7 @@
-use Rattle.px_asm.proofs.StoreStays.{store_grows_on}
-use Rattle.px_written.specs.Holds.{IsLocals}
-use Rattle.px_asm.proofs.TableFacts.{zipped_at}
-use Rattle.px_asm.proofs.TableStays.{heaps, table_stays_locals}
+use Rattle.px_asm_store.proofs.StoreStays.{store_grows_on}
+use Rattle.px_asm_law_written.specs.Holds.{IsLocals}
+use Rattle.px_asm_rows.proofs.TableFacts.{zipped_at}
+use Rattle.px_asm_rows.proofs.TableStays.{heaps, table_stays_locals}
 use Rattle.px_asm.proofs.methods.locals_rows.Goals as goal
 
 pub loop-number-preserved : goal.loop-number-preserved

@@ -1,7 +1,7 @@
 use Rattle.std.proofs.Common.{take}
 use Rattle.std.specs.List.{AllZip}
-use Rattle.px_written.specs.Holds.{IsLocals}
-use Rattle.px_written.specs.Store.{StoreGrows}
+use Rattle.px_asm_law_written.specs.Holds.{IsLocals}
+use Rattle.px_asm_law_written.specs.Store.{StoreGrows}
 use Rattle.px_asm.proofs.methods.locals_rows.Given as goal
 
 abbrev pub invariant-loop-number : goal.invariant-loop-number

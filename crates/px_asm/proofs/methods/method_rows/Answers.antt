@@ -1,8 +1,8 @@
-use Rattle.px_asm.proofs.StoreStays.{store_grows_on}
-use Rattle.px_asm.specs.Tables.{HasAddress}
-use Rattle.px_written.specs.Holds.{IsMethodDef}
-use Rattle.px_asm.proofs.TableFacts.{zipped_at, zip_read}
-use Rattle.px_asm.proofs.TableStays.{heaps, heaps_grow_twice}
+use Rattle.px_asm_store.proofs.StoreStays.{store_grows_on}
+use Rattle.px_asm_rows.specs.Tables.{HasAddress}
+use Rattle.px_asm_law_written.specs.Holds.{IsMethodDef}
+use Rattle.px_asm_rows.proofs.TableFacts.{zipped_at, zip_read}
+use Rattle.px_asm_rows.proofs.TableStays.{heaps, heaps_grow_twice}
 use Rattle.px_asm.proofs.methods.method_rows.Goals as goal
 
 pub loop-at-preserved : goal.loop-at-preserved

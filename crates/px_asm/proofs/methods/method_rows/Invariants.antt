@@ -1,8 +1,8 @@
 use Rattle.std.proofs.Common.{ℕ, List, take}
 use Rattle.std.specs.List.{AllZip}
-use Rattle.px_written.specs.Holds.{IsMethodDef}
-use Rattle.px_written.specs.Store.{Store, StoreGrows}
-use Rattle.px_asm.specs.Tables.{HasAddress, HeapsGrow}
+use Rattle.px_asm_law_written.specs.Holds.{IsMethodDef}
+use Rattle.px_asm_law_written.specs.Store.{Store, StoreGrows}
+use Rattle.px_asm_rows.specs.Tables.{HasAddress, HeapsGrow}
 use Rattle.px_asm.proofs.methods.method_rows.Given as goal
 
 -- the rows so far, in all stores that have the heaps

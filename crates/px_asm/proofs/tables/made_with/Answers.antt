@@ -1,12 +1,12 @@
 use Rattle.std.proofs.Common.{ℕ, List, sym, subst}
 use Rattle.std.specs.List.{AllZip, flat_map}
 use Rattle.std.specs.Prelude.{slice_get}
-use Rattle.px_asm.proofs.StoreStays.{store_grows_on}
-use Rattle.px_written.specs.Holds.{AreTypeDefs, IsFieldDef, IsImplRow, IsLocals, IsSpecRow, IsTypeRef, all_places, all_referred, overriding_pairs, pair_of}
-use Rattle.px_asm.specs.Tables.{AreMethodRows, HeapsGrow}
-use Rattle.px_written.specs.Tokens.{fields_of}
+use Rattle.px_asm_store.proofs.StoreStays.{store_grows_on}
+use Rattle.px_asm_law_written.specs.Holds.{AreTypeDefs, IsFieldDef, IsImplRow, IsLocals, IsSpecRow, IsTypeRef, all_places, all_referred, overriding_pairs, pair_of}
+use Rattle.px_asm_rows.specs.Tables.{AreMethodRows, HeapsGrow}
+use Rattle.px_asm_law_written.specs.Tokens.{fields_of}
 use Rattle.px_asm.proofs.TableHolds.{table_stays_all_locals, table_stays_fields, table_stays_method_rows, table_stays_specs, table_stays_type_defs, table_stays_type_refs}
-use Rattle.px_asm.proofs.TableStays.{heaps, heaps_grow_twice}
+use Rattle.px_asm_rows.proofs.TableStays.{heaps, heaps_grow_twice}
 use Rattle.px_asm.proofs.tables.made_with.Goals as goal
 
 pub returns-clause-grows : goal.returns-clause-grows

@@ -1,5 +1,5 @@
 use Rattle.std.proofs.Common.{◌≡◌, ◌≤◌, ◌-◌, ℕ, length}
-use Rattle.px_written.specs.Holds.{table_in}
+use Rattle.px_asm_law_written.specs.Holds.{table_in}
 use Rattle.px_asm.proofs.tables.put.Given as goal
 
 -- all that was read is read still

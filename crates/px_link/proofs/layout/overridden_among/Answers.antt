@@ -1,5 +1,5 @@
 use Rattle.std.proofs.Common.{sym, ◌∙◌}
-use Rattle.px_reach.proofs.Chains.{fewer_owners}
+use Rattle.px_link_reach.proofs.Chains.{fewer_owners}
 use Rattle.px_link.proofs.Slots.{inside, walk_ended, walk_found, walk_on}
 use Rattle.px_link.proofs.layout.overridden_among.Goals as goal
 

@@ -1,4 +1,4 @@
-use Rattle.px_reach.proofs.Chains.{owners_left}
+use Rattle.px_link_reach.proofs.Chains.{owners_left}
 use Rattle.px_link.proofs.Slots.{IsWalkTo}
 use Rattle.px_link.proofs.layout.overridden_among.Given as goal
 

@@ -1,7 +1,7 @@
 use Rattle.std.proofs.Common.{◌≡◌, ◌∷◌, sym, ◌∙◌, subst}
-use Rattle.px_reach.specs.Met as reach
-use Rattle.px_reach.specs.Met.{IsReached}
-use Rattle.px_reach.specs.Overriders.{AreLists}
+use Rattle.px_link_reach.specs.Met as reach
+use Rattle.px_link_reach.specs.Met.{IsReached}
+use Rattle.px_link_reach.specs.Overriders.{AreLists}
 use Rattle.px_link.specs.Link.{Blames, rows_of}
 use Rattle.px_link.specs.Parts.{IsEntryOf, IsLinked}
 use Rattle.px_link.proofs.Linking.{bad_body}

@@ -1,5 +1,5 @@
 use Rattle.std.proofs.Common.{◌≡◌, ◌+◌, drop}
-use Rattle.px_methods.specs.Codes.{place_of}
+use Rattle.px_link_methods.specs.Codes.{place_of}
 use Rattle.px_link.proofs.linked.maker_number.Given as goal
 
 -- it is none of those so far

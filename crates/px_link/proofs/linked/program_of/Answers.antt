@@ -1,63 +1,17 @@
-use Rattle.std.proofs.Common.{◌≡◌, true, length, sym, ap, ◌∙◌, subst}
-use Rattle.std.specs.Prelude.{◌==◌}
-use Rattle.std.specs.List.{AllByRecursion, IsDistinct, flat_map}
-use Rattle.px_meta.specs.Rows.{IsRow, is_in, methods}
-use Rattle.px_methods.specs.Methods.{AreMethods}
-use Rattle.px_reach.specs.Met.{target_of}
-use Rattle.px_reach.specs.declared.body.Whole.{Whole}
-use Rattle.px_types.specs.Numbers.{library_keys}
-use Rattle.px_link.specs.Layout.{IsLayout}
-use Rattle.px_link.specs.Parts.{HasTypes}
-use Rattle.px_link.proofs.Linking.{linked_from, met_numbered}
-use Rattle.px_link.proofs.Reached.{as_many, distinct, targets_in, virtual_rows}
+use Rattle.std.proofs.Common.{length, sym, ap, ◌∙◌, subst}
+use Rattle.px_link_methods.specs.Methods.{met_by_all}
+use Rattle.px_link_types.specs.Numbers.{Numbers, library_keys}
+use Rattle.px_link.proofs.Reached.{as_many}
 use Rattle.px_link.proofs.linked.program_of.Goals as goal
-use Rattle.px_link.proofs.linked.program_of.Goals.{After-as_slice-targets}
-
-many : (c : After-as_slice-targets) → length c.as_slice-bodies.result.now ≡ length c.as_slice-rows.result.now
-many c =
-    ap length c.as_slice-bodies.ensures ∙ as_many c.args.tokens.now c.requires.reached.image c.args.overriding.now.lists _ c.args.reached.now c.requires.reached.is ∙ ap length (sym c.as_slice-rows.ensures)
-
-apart : (c : After-as_slice-targets) → IsDistinct (λ row other. row == other) c.as_slice-rows.result.now
-apart c =
-    subst (λ rows. IsDistinct (λ row other. row == other) rows) (sym c.as_slice-rows.ensures) (distinct c.args.tokens.now c.requires.reached.image c.args.overriding.now.lists _ c.args.reached.now c.requires.reached.is)
 
 pub types_met-requires-clause-pairs : goal.types_met-requires-clause-pairs
-types_met-requires-clause-pairs c = many (goal.at.types_met-requires-clause-pairs c).After-as_slice-targets
+types_met-requires-clause-pairs c =
+    ap length c.as_slice-bodies.ensures ∙ as_many c.args.tokens.now c.requires.reached.image c.args.overriding.now.lists _ c.args.reached.now c.requires.reached.is ∙ ap length (sym c.as_slice-rows.ensures)
 
-pub types_of-requires-clause-targets : goal.types_of-requires-clause-targets
-types_of-requires-clause-targets c =
-    subst (λ v. AllByRecursion (IsRow v methods) c.as_slice-targets.result.now) (sym c.meta.ensures)
-    (subst (AllByRecursion (IsRow c.args.tokens.now methods)) (sym c.as_slice-targets.ensures) (virtual_rows c.args.tokens.now c.requires.reached.image c.args.overriding.now.lists _ c.args.reached.now c.requires.reached.is c.requires.owned))
-
-pub types_of-requires-clause-distinct : goal.types_of-requires-clause-distinct
-types_of-requires-clause-distinct c = apart (goal.at.types_of-requires-clause-distinct c).After-as_slice-targets
-
-pub methods_of-requires-clause-distinct : goal.methods_of-requires-clause-distinct
-methods_of-requires-clause-distinct c = apart (goal.at.methods_of-requires-clause-distinct c).After-as_slice-targets
-
-pub methods_of-requires-clause-pairs : goal.methods_of-requires-clause-pairs
-methods_of-requires-clause-pairs c = many (goal.at.methods_of-requires-clause-pairs c).After-as_slice-targets
-
-pub methods_of-requires-clause-numbered : goal.methods_of-requires-clause-numbered
-methods_of-requires-clause-numbered c = met_numbered c.args.tokens.now library_keys _ c.in_ok-types.types.keys (let met = c.in_ok-types.ensures in met.numbers)
-
-pub methods_of-requires-clause-targets : goal.methods_of-requires-clause-targets
-methods_of-requires-clause-targets c =
-    let given = targets_in c.args.tokens.now c.requires.reached.image c.args.overriding.now.lists _ c.args.reached.now c.requires.reached.is in
-    let of_rows = subst (λ rows. AllByRecursion (λ (whole : Whole). AllByRecursion (λ row. is_in rows row ≡ true) (flat_map (target_of c.args.tokens.now) whole.body.code)) c.args.reached.now.bodies) (sym c.as_slice-rows.ensures) given in
-    subst (λ bodies. AllByRecursion (λ (whole : Whole). AllByRecursion (λ row. is_in c.as_slice-rows.result.now row ≡ true) (flat_map (target_of c.args.tokens.now) whole.body.code)) bodies) (sym c.as_slice-bodies.ensures) of_rows
-
-pub returns : goal.returns
-returns c = λ image name is reached.
+pub program_with-requires-clause-numbers : goal.program_with-requires-clause-numbers
+program_with-requires-clause-numbers c =
     let v = c.args.tokens.now in
+    let keys = c.in_ok-types.types.keys in
     let met = c.in_ok-types.ensures in
-    let typed = subst (λ x. HasTypes x (record { keys = c.in_ok-types.types.keys; rows = c.as_slice-rows.result.now }) c.args.overriding.now.lists c.as_slice-targets.result.now c.in_ok-infos.infos.items) c.meta.ensures c.in_ok-infos.ensures in
-    let laid = subst (λ x. IsLayout x (record { keys = c.in_ok-types.types.keys; rows = c.as_slice-rows.result.now }) c.in_ok-layout.layout) c.meta-2.ensures c.in_ok-layout.ensures in
-    linked_from v image name c.args.entry.now c.args.overriding.now.lists c.args.reached.now c.as_slice-rows.result.now c.as_slice-bodies.result.now c.as_slice-targets.result.now c.in_ok-types.types.keys c.from_vec.result c.from_vec-2.result c.maker_number.result c.in_ok-layout.layout
-    c.as_slice-rows.ensures c.as_slice-bodies.ensures c.as_slice-targets.ensures is c.requires.lists reached met.numbers
-    (subst (λ ts. HasTypes v (record { keys = c.in_ok-types.types.keys; rows = c.as_slice-rows.result.now }) c.args.overriding.now.lists c.as_slice-targets.result.now ts) (sym c.from_vec.ensures) typed)
-    (subst (λ ms. AreMethods v (record { keys = c.in_ok-types.types.keys; rows = c.as_slice-rows.result.now }) c.as_slice-bodies.result.now ms) (sym c.from_vec-2.ensures) c.in_ok-methods.ensures)
-    c.maker_number.ensures laid c.requires.few c.requires.owned
-
-pub layout_of-requires-clause-distinct : goal.layout_of-requires-clause-distinct
-layout_of-requires-clause-distinct c = apart (goal.at.layout_of-requires-clause-distinct c).After-as_slice-targets
+    subst (λ rs. Numbers v library_keys (met_by_all v rs c.args.reached.now.bodies) keys) c.as_slice-rows.ensures
+    (subst (λ bs. Numbers v library_keys (met_by_all v c.as_slice-rows.result.now bs) keys) c.as_slice-bodies.ensures met.numbers)

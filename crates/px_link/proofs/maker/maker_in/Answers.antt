@@ -1,7 +1,7 @@
 use Rattle.std.proofs.Common.{◌≡◌, true, ap, sym, ◌∙◌, arith}
 use Rattle.px_meta.specs.Members.{IsMethod}
 use Rattle.px_meta.specs.Rows.{IsRow, count_of, methods}
-use Rattle.px_types.specs.Keys.{is_class}
+use Rattle.px_link_types.specs.Keys.{is_class}
 use Rattle.px_link.proofs.Finding.{item_of}
 use Rattle.px_link.proofs.Making.{maker_here, maker_nowhere, none_first, none_next}
 use Rattle.px_link.proofs.maker.maker_in.Goals as goal

@@ -1,9 +1,9 @@
 use Rattle.std.proofs.Common.{◌<◌, length, slice_index_or, sym, ap, ◌∙◌, subst, arith}
-use Rattle.px_methods.specs.Codes.{Numbering}
+use Rattle.px_link_methods.specs.Codes.{Numbering}
 use Rattle.px_sig.specs.declared.sig.Integer.TheVariants.{Bool}
-use Rattle.px_types.proofs.Known.{key_of}
-use Rattle.px_types.specs.declared.key.Key.{Key}
-use Rattle.px_types.specs.declared.key.Leaf.TheVariants.{Number}
+use Rattle.px_link_types.proofs.Known.{key_of}
+use Rattle.px_link_types.specs.declared.key.Key.{Key}
+use Rattle.px_link_types.specs.declared.key.Leaf.TheVariants.{Number}
 use Rattle.px_link.specs.Overrides.{AreOverrides}
 use Rattle.px_link.proofs.Typed.{all_linked, bare_types, key_there, no_targets, so_far_on}
 use Rattle.px_link.proofs.overrides.types_of.Goals as goal

@@ -1,5 +1,5 @@
 use Rattle.std.proofs.Common.{sym, ap, arith}
-use Rattle.px_sig.specs.Reading.{◌>>=◌}
+use Rattle.px_reading.specs.Reading.{◌>>=◌}
 use Rattle.px_sig.specs.Parts.{behind_all}
 use Rattle.px_sig.proofs.Pile.{all_snoc, nothing}
 use Rattle.px_sig.proofs.types.owe.Goals as goal

@@ -2,8 +2,8 @@ use Rattle.std.proofs.Common.{◌∙◌, ℕ, List, ap, subst, sym, take_all}
 use Rattle.std.specs.Borrow.{Bor}
 use Rattle.std.proofs.lemmas.Result.{err_from_is_err_and}
 use Rattle.px_chain.specs.Clause.{Formula, IsOver}
-use Rattle.px_gates.specs.Gate.{Keeps}
-use Rattle.px_gates.proofs.Formulas.{Keeps-clauses, all_read, with_clauses-more, with_clauses-none}
+use Rattle.px_gates.specs.Gate.{KeepsFormula}
+use Rattle.px_gates.proofs.Formulas.{KeepsFormula-clauses, all_read, with_clauses-more, with_clauses-none}
 use Rattle.px_gates.proofs.gates.Gates.add_all.Goals as goal
 
 pub loop-clause-init : goal.loop-clause-init
@@ -17,7 +17,7 @@ add-requires c =
 pub returns-in_err-add-clause-kept : goal.returns-in_err-add-clause-kept
 returns-in_err-add-clause-kept c =
     let p = err_from_is_err_and c.from_residual.result c.from_residual.ensures.1 in
-    rw p.1 (subst (Keeps c.args.self.now) (sym (c.in_err-add.ensures.kept ∙ c.loop-clause.invariant)) (Keeps-clauses c.args.self.now _))
+    rw p.1 (subst (KeepsFormula c.args.self.now) (sym (c.in_err-add.ensures.kept ∙ c.loop-clause.invariant)) (KeepsFormula-clauses c.args.self.now _))
 
 pub loop-clause-preserved : goal.loop-clause-preserved
 loop-clause-preserved c =

@@ -1,6 +1,6 @@
 use Rattle.std.proofs.Common.{◌-◌, ◌∙◌, refl, ap, arith}
 use Rattle.std.proofs.lemmas.Result.{err_from_is_err_and}
-use Rattle.px_sig.specs.Reading.{◌>>=◌}
+use Rattle.px_reading.specs.Reading.{◌>>=◌}
 use Rattle.px_sig.specs.Grammar.{form_at, shape_at, type_at, type_behind}
 use Rattle.px_sig.specs.Parts.{behind_all, behind_both}
 use Rattle.px_sig.specs.declared.form.Owes.{Owes}

@@ -1,3 +1,0 @@
-pub mod Exploring
-mod Forms
-mod Telling

@@ -1,4 +1,0 @@
-use Rattle.pex.proofs.method.of_meta.Goals as goal
-
-pub returns-in-Err : goal.returns-in-Err
-returns-in-Err c = c.unlinked.ensures c.args.meta.now c.args.image.now c.args.name.now c.args.text.now c.in-Err.ensures.fault

@@ -1,5 +1,0 @@
-use Rattle.px_asm.proofs.StoreStays.{references_stay}
-use Rattle.px_asm.proofs.tokens.text_token.Goals as goal
-
-pub returns-clause-kept : goal.returns-clause-kept
-returns-clause-kept c = references_stay c.args.rows.now c.args.store.now c.text.new.self c.in_ok-text.ensures.grows c.in_ok-text.ensures.references c.requires.before

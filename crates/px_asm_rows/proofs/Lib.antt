@@ -1,0 +1,5 @@
+pub mod TableCounts
+pub mod TableFacts
+pub mod TableStays
+pub mod TableTexts
+pub mod TableTypes

@@ -1,0 +1,6 @@
+pub mod PlaceEnds
+pub mod PlaceTypes
+pub mod RowCounts
+pub mod RowSetting
+pub mod StoreMade
+pub mod StoreStays

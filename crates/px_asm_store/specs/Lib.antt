@@ -1,0 +1,4 @@
+pub mod Constructors
+pub mod Elements
+pub mod Kept
+pub mod Rows

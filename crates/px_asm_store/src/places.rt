@@ -1,0 +1,169 @@
+// Types in signatures, by the places of a program: Partition II, 23.2.12.
+ghost use Rattle.std.specs.Prelude.{◌≡◌, ◌<◌, ◌^◌, true, Some, length, IfOk, IfSome, IfNone, slice_get};
+ghost use Rattle.std.specs.List.{AllByRecursion, AllZip, list_all};
+ghost use Rattle.px_asm_heaps.specs.Spelling.{IsSpelledSig, is_spelled};
+ghost use Rattle.px_program.specs.Formed.{AreTypes, FitsPlace, IsFormedIn, explicit_params};
+ghost use Rattle.px_program.specs.declared.program.Method.{Method};
+ghost use Rattle.px_program.specs.declared.program.Place.TheVariants.{Ref};
+ghost use Rattle.px_asm_described.specs.Describes.{IsSigOf, IsTypeOf, class_token};
+ghost use Rattle.px_sig.specs.Parts.{arrays_of};
+ghost use Rattle.px_asm_store.specs.Elements.{HoldsArray, IsLeaf, IsInnermost};
+ghost use Rattle.px_asm_store.specs.Rows.{HasRoom, IsTyped};
+
+use crate::rows::Rows;
+use px_program::{Method, Place, Program};
+use px_sig::{Integer, MethodSig, SigType};
+use sqlite_items::{Boxed, Items};
+use std::alloc::{AllocError, Global};
+
+/// The token of a class of the library or of the assembly.
+pub fn class_token(rows: &Rows, class: u32) -> u32
+    requires { IsTyped rows.now class }
+    ensures { result ≡ class_token rows.now class }
+{
+    if class < 18 {
+        0x0100_0000 + class + 1
+    } else {
+        0x0200_0000 + rows.type_row(class)
+    }
+}
+
+// The place of the elements, where a place holds an array. A type of the library is none.
+fn element_in(program: &Program, place: Place) -> Option<Place>
+    requires types { AreTypes program.now.types }
+    requires fits { FitsPlace program.now.types place }
+    ensures array { IfSome result (HoldsArray program.now place) }
+    ensures leaf { IfNone result (IsLeaf program.now place) }
+{
+    match place {
+        Place::Ref(class) if class >= 18 => program.types.as_slice()[class as usize].element,
+        _ => None,
+    }
+}
+
+// How many arrays lie in each other where a place holds one, and the place of the elements of the innermost.
+fn innermost(program: &Program, place: Place) -> (u32, Place)
+    requires types { AreTypes program.now.types }
+    requires few { length program.now.types < 2 ^ 23 }
+    requires fits { FitsPlace program.now.types place }
+    ensures { IsInnermost program.now place result.0 result.1 }
+{
+    let mut arrays = 0;
+    let mut inner = place;
+    while let Some(element) = element_in(program, inner) {
+        arrays += 1;
+        inner = element;
+    }
+    (arrays, inner)
+}
+
+// The type of a class.
+fn class_type(rows: &Rows, class: u32) -> SigType
+    requires room { HasRoom rows.now }
+    requires there { class < length rows.now.types }
+    requires leaf { IsLeaf rows.now (Ref class) }
+    ensures is { IsTypeOf rows.now (Ref class) result }
+    ensures spelled { is_spelled result ≡ true }
+{
+    match class {
+        0 => SigType::Object,
+        17 => SigType::Str,
+        _ => SigType::Class(class_token(rows, class)),
+    }
+}
+
+// The type of what a place holds that is no array.
+fn leaf_type(rows: &Rows, place: Place) -> SigType
+    requires room { HasRoom rows.now }
+    requires fits { FitsPlace rows.now.types place }
+    requires leaf { IsLeaf rows.now place }
+    ensures is { IsTypeOf rows.now place result }
+    ensures spelled { is_spelled result ≡ true }
+{
+    match place {
+        Place::Bool => SigType::Int(Integer::Bool),
+        Place::Char => SigType::Int(Integer::Char),
+        Place::I1 => SigType::Int(Integer::I1),
+        Place::U1 => SigType::Int(Integer::U1),
+        Place::I2 => SigType::Int(Integer::I2),
+        Place::U2 => SigType::Int(Integer::U2),
+        Place::I4 => SigType::Int(Integer::I4),
+        Place::U4 => SigType::Int(Integer::U4),
+        Place::I8 => SigType::Int(Integer::I8),
+        Place::U8 => SigType::Int(Integer::U8),
+        Place::N => SigType::Int(Integer::N),
+        Place::UN => SigType::Int(Integer::UN),
+        Place::Ref(class) => class_type(rows, class),
+    }
+}
+
+// So many arrays around a type.
+fn arrays_of(alloc: Global, count: u32, inner: SigType) -> Result<SigType, AllocError>
+    requires { is_spelled inner ≡ true }
+    ensures arrays { IfOk result (λ item. item ≡ arrays_of count inner) }
+    ensures spelled { IfOk result (λ item. is_spelled item ≡ true) }
+{
+    let mut outer = inner;
+    for _ in 0..count {
+        outer = SigType::Array(Boxed::new(alloc, outer)?);
+    }
+    Ok(outer)
+}
+
+/// The type that says in a signature what a place holds.
+pub fn type_of(alloc: Global, rows: &Rows, place: Place) -> Result<SigType, AllocError>
+    requires { FitsPlace rows.now.types place }
+    ensures is { IfOk result (IsTypeOf rows.now place) }
+    ensures spelled { IfOk result (λ item. is_spelled item ≡ true) }
+{
+    let (arrays, inner) = innermost(rows.program(), place);
+    arrays_of(alloc, arrays, leaf_type(rows, inner))
+}
+
+/// The types of places.
+pub fn types_of(alloc: Global, rows: &Rows, places: &[Place]) -> Result<Items<SigType>, AllocError>
+    requires { AllByRecursion (FitsPlace rows.now.types) places.now }
+    ensures are { IfOk result (AllZip (IsTypeOf rows.now) places.now) }
+    ensures spelled { IfOk result (λ items. list_all is_spelled items ≡ true) }
+{
+    let mut types = Items::new(alloc);
+    for place in places {
+        types.push(type_of(alloc, rows, *place)?)?;
+    }
+    Ok(types)
+}
+
+// The parameters of a method without the receiver.
+fn explicit_params<'m>(program: &'m Program, method: &'m Method) -> &'m [Place]
+    requires { IsFormedIn program.now method.now }
+    ensures arguments { result.now ≡ explicit_params method.now }
+    ensures fit { AllByRecursion (FitsPlace program.now.types) result.now }
+{
+    let params = method.params.as_slice();
+    if method.is_static {
+        params
+    } else {
+        &params[1..]
+    }
+}
+
+/// The signature of a method of the program.
+pub fn sig_of(alloc: Global, rows: &Rows, number: u32) -> Result<MethodSig, AllocError>
+    requires { number < length rows.now.methods }
+    ensures is { (method : Method) → slice_get rows.now.methods number ≡ Some method → IfOk result (IsSigOf rows.now method) }
+    ensures spelled { IfOk result IsSpelledSig }
+{
+    let program = rows.program();
+    let method = &program.methods.as_slice()[number as usize];
+    let params = types_of(alloc, rows, explicit_params(program, method))?;
+    let ret = match method.ret {
+        Some(place) => type_of(alloc, rows, place)?,
+        None => SigType::Void,
+    };
+    Ok(MethodSig {
+        has_this: !method.is_static,
+        plain: true,
+        ret,
+        params,
+    })
+}

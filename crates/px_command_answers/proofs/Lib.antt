@@ -1,0 +1,2 @@
+mod Explaining
+pub mod Exploring

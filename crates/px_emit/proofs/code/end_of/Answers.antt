@@ -1,6 +1,0 @@
-use Rattle.std.proofs.Common.{sym}
-use Rattle.px_code.proofs.Ends.{end_is}
-use Rattle.px_emit.proofs.code.end_of.Goals as goal
-
-pub returns-in-Some : goal.returns-in-Some
-returns-in-Some c = end_is c.args.instrs.now c.in-Some.instr.now (sym c.in-Some.ensures.value)

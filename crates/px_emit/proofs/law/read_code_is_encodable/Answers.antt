@@ -1,5 +1,0 @@
-use Rattle.px_emit.proofs.Read.{read_encodable}
-use Rattle.px_emit.proofs.law.read_code_is_encodable.Goals as goal
-
-pub returns : goal.returns
-returns c = record { law = read_encodable }

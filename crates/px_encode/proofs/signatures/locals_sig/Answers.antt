@@ -1,6 +1,0 @@
-use Rattle.std.proofs.Common.{rules}
-use Rattle.px_encode.proofs.Whole.{locals_written}
-use Rattle.px_encode.proofs.signatures.locals_sig.Goals as goal
-
-pub returns : goal.returns
-returns c = locals_written c.push_types.new.out.items c.args.locals.now (search rules) (search rules) c.requires

@@ -1,0 +1,10 @@
+mod ExampleProgram
+mod ExamplesBodies
+mod ExamplesHeaps
+mod ExamplesImages
+mod ExamplesMetadata
+mod ExamplesOpcodes
+mod ExamplesReferences
+mod ExamplesSignatures
+mod ExamplesWritten
+mod SigWords

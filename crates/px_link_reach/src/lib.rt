@@ -1,0 +1,13 @@
+//! The methods that a program has: all that calls and overriding reach from those that it starts with.
+#![tactic(auto)]
+
+mod body;
+mod found;
+mod methods;
+mod order;
+mod overriding;
+mod parents;
+
+pub use body::Whole;
+pub use methods::{ReachFault, Reached, reach};
+pub use overriding::Overriding;

@@ -1,0 +1,6 @@
+use Rattle.std.proofs.Common.{◌≡◌, drop}
+use Rattle.px_link_tokens.proofs.Nesting.{names_before}
+use Rattle.px_link_tokens.proofs.names.nested_name.Given as goal
+
+abbrev pub invariant-loop-n : goal.invariant-loop-n
+invariant-loop-n l = l.name.items ≡ names_before l.tables (drop l.n l.scopes)

@@ -1,8 +1,0 @@
-use Rattle.std.proofs.Common.{take}
-use Rattle.std.specs.List.{flat_map}
-use Rattle.px_methods.specs.Methods.{keys_of_clause}
-use Rattle.px_methods.specs.Parts.{IsAdded}
-use Rattle.px_methods.proofs.met.push_clauses.Given as goal
-
-abbrev pub invariant-loop-raw : goal.invariant-loop-raw
-invariant-loop-raw l = IsAdded l.meta l.fn.keys.items (flat_map (keys_of_clause l.meta) (take l.raw-index l.raws)) l.keys.items

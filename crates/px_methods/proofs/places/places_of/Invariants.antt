@@ -1,6 +1,0 @@
-use Rattle.std.proofs.Common.{◌≡◌, map, take}
-use Rattle.px_methods.specs.Methods.{place_of_type}
-use Rattle.px_methods.proofs.places.places_of.Given as goal
-
-abbrev pub invariant-loop-item : goal.invariant-loop-item
-invariant-loop-item l = l.places ≡ map (place_of_type l.meta l.types.keys) (take l.item-index l.items)

@@ -1,6 +1,0 @@
-use Rattle.px_operands.proofs.Flags.{AreFlagged}
-use Rattle.px_operands.proofs.initialisers.initialised.Given as goal
-
--- the flags tell of the methods so far
-abbrev pub invariant-loop-method : goal.invariant-loop-method
-invariant-loop-method l = AreFlagged l.meta l.method-index l.flags.items

@@ -1,6 +1,0 @@
-use Rattle.px_meta.proofs.Rows.{AreFirst}
-use Rattle.px_reach.specs.Parts.{IsParent}
-use Rattle.px_reach.proofs.parents.Parents.new.Given as goal
-
-abbrev pub invariant-loop-n : goal.invariant-loop-n
-invariant-loop-n l = AreFirst IsParent l.meta l.n l.rows.items

@@ -1,7 +1,0 @@
-// The law, as the contract of a call that does nothing.
-ghost use Rattle.px_written.specs.Laws.{WrittenDescribes};
-
-/// What is written of a program describes it.
-pub fn written_describes()
-    ensures law { WrittenDescribes }
-{}
