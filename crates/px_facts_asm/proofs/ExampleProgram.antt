@@ -84,7 +84,13 @@ abbrev layout : Layout
 layout = record { types = 18 ∷ 21 ∷ []; methods = 0 ∷ 1 ∷ 2 ∷ []; slots = slot false None ∷ slot true None ∷ slot true (Some 1) ∷ [] }
 
 abbrev pub program_with : Code → Program
-program_with made = record { types = types; methods = static_method ∷ abstract_method ∷ overriding_method made ∷ []; entry = 0; maker = None; layout = layout }
+program_with made = record {
+  types = types;
+  methods = static_method ∷ abstract_method ∷ overriding_method made ∷ [];
+  entry = 0;
+  maker = None;
+  layout = layout;
+}
 
 abbrev pub example : Program
 example = program_with Return

@@ -7,7 +7,8 @@ use Rattle.px_code.specs.declared.body.RawInstr.{RawInstr}
 
 -- all of reading and writing: a fact that opens it computes with both
 unfoldable rewriting : Type 0
-unfolding body_of instr_at instrs_from operand_of sections_from body_bytes clause_bytes code_bytes distances_bytes header_bytes instr_bytes little_bytes section_bytes
+unfolding body_of instr_at instrs_from operand_of sections_from body_bytes clause_bytes code_bytes distances_bytes header_bytes instr_bytes little_bytes
+    section_bytes
 rewriting = Unit {0}
 
 -- the bytes are read as the body, which is written as other bytes; they are read as the same body

@@ -87,7 +87,8 @@ unfolding headers
 directory_14 = refl
 
 -- its name, sizes, address and place
-the_header_of_the_section : part 0x178 24 ≡ codes ".text" ++ 0 ∷ 0 ∷ 0 ∷ 0x55 ∷ 0 ∷ 0 ∷ 0 ∷ 0 ∷ 0x20 ∷ 0 ∷ 0 ∷ 0x55 ∷ 0 ∷ 0 ∷ 0 ∷ 0 ∷ 0x02 ∷ 0 ∷ 0 ∷ []
+the_header_of_the_section : part 0x178 24
+    ≡ codes ".text" ++ 0 ∷ 0 ∷ 0 ∷ 0x55 ∷ 0 ∷ 0 ∷ 0 ∷ 0 ∷ 0x20 ∷ 0 ∷ 0 ∷ 0x55 ∷ 0 ∷ 0 ∷ 0 ∷ 0 ∷ 0x02 ∷ 0 ∷ 0 ∷ []
 unfolding headers
 the_header_of_the_section = refl
 
@@ -115,14 +116,18 @@ behind_the_first_byte_of_the_bodies = refl
 behind_the_section : rest_at view.sections 0x2055 ≡ None
 behind_the_section = refl
 
+-- two zeros and the metadata
+abbrev behind : List ℕ
+behind = 0 ∷ 0 ∷ codes "meta!"
+
 bodies_from : (at : ℕ) → at < 6 → HasBodies file view (first_body + at) (drop at (codes "bodies"))
 unfolding headers
-bodies_from zero less = record { span = record { start = 584; len = 13 }; at = refl; rest = 0 ∷ 0 ∷ codes "meta!"; are = refl }
-bodies_from (suc zero) less = record { span = record { start = 585; len = 12 }; at = refl; rest = 0 ∷ 0 ∷ codes "meta!"; are = refl }
-bodies_from (suc (suc zero)) less = record { span = record { start = 586; len = 11 }; at = refl; rest = 0 ∷ 0 ∷ codes "meta!"; are = refl }
-bodies_from (suc (suc (suc zero))) less = record { span = record { start = 587; len = 10 }; at = refl; rest = 0 ∷ 0 ∷ codes "meta!"; are = refl }
-bodies_from (suc (suc (suc (suc zero)))) less = record { span = record { start = 588; len = 9 }; at = refl; rest = 0 ∷ 0 ∷ codes "meta!"; are = refl }
-bodies_from (suc (suc (suc (suc (suc zero))))) less = record { span = record { start = 589; len = 8 }; at = refl; rest = 0 ∷ 0 ∷ codes "meta!"; are = refl }
+bodies_from zero less = record { span = record { start = 584; len = 13 }; at = refl; rest = behind; are = refl }
+bodies_from (suc zero) less = record { span = record { start = 585; len = 12 }; at = refl; rest = behind; are = refl }
+bodies_from (suc (suc zero)) less = record { span = record { start = 586; len = 11 }; at = refl; rest = behind; are = refl }
+bodies_from (suc (suc (suc zero))) less = record { span = record { start = 587; len = 10 }; at = refl; rest = behind; are = refl }
+bodies_from (suc (suc (suc (suc zero)))) less = record { span = record { start = 588; len = 9 }; at = refl; rest = behind; are = refl }
+bodies_from (suc (suc (suc (suc (suc zero))))) less = record { span = record { start = 589; len = 8 }; at = refl; rest = behind; are = refl }
 bodies_from (suc (suc (suc (suc (suc (suc at)))))) less = absurd (omega arith)
 
 it_has_its_parts : IsImageOf (codes "meta!") (codes "bodies") file

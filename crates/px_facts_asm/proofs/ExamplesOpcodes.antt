@@ -1,19 +1,15 @@
 -- Instructions to what they do and back: by the opcode, the operand and the targets of what does the same in as many bytes.
 use Rattle.std.proofs.Common.{◌≡◌, ℕ, ◌+◌, List, [], ◌∷◌, refl, map, false, Option, Some, None, arith}
 use Rattle.px_code.specs.Body.{operand_of}
-use Rattle.px_link_opcodes.specs.Opcodes.{arithmetic_code, branch_by, checked_code, converted, converted_checked, converted_unsigned, flow_code, loaded, other_code, plain_code, slot_move, stack_move, stored}
+use Rattle.px_link_opcodes.specs.Opcodes.{plain_code}
 use Rattle.px_asm_opcodes.specs.Choosing.{opcode_by, operand_by}
 use Rattle.px_asm_opcodes.specs.Recoding.{IsRawOf}
 use Rattle.px_program.specs.Formed.{targets_of}
 use Rattle.px_program.specs.declared.instr.Callee.TheVariants.{Method}
 use Rattle.px_program.specs.declared.instr.Code.{Code}
 use Rattle.px_program.specs.declared.instr.Code.TheVariants.{Branch, Call, Move, Return}
+use Rattle.px_facts_link.proofs.InstrWords.{opcodes}
 use Rattle.px_program.specs.declared.instr.Move.TheVariants.{Constant}
-
--- all families of opcodes: a fact that opens it computes with each of them
-unfoldable opcodes : Type 0
-unfolding arithmetic_code branch_by checked_code converted converted_checked converted_unsigned flow_code loaded other_code slot_move stack_move stored
-opcodes = Unit {0}
 
 -- what an instruction does in so many bytes, as it is written: its opcode, its operand and its targets
 abbrev written : ℕ → Option Code → ℕ × ℕ × List ℕ
@@ -22,7 +18,8 @@ written size (Some code) = (opcode_by code size, operand_by code size, targets_o
 
 -- an instruction at offset 16, as it comes back
 abbrev back : ℕ → ℕ → ℕ → List ℕ → ℕ × ℕ × List ℕ
-back opcode operand size targets = written size (plain_code (record { offset = 16; next = 16 + size; opcode = opcode; operand = operand; targets = targets }))
+back opcode operand size targets =
+    written size (plain_code (record { offset = 16; next = 16 + size; opcode = opcode; operand = operand; targets = targets }))
 
 -- WITHOUT AN OPERAND: each comes back in as many bytes
 
@@ -38,17 +35,25 @@ small_constants_and_moves_on_the_stack : ComeBack 1 (0x14 ∷ 0x15 ∷ 0x16 ∷ 
 unfolding opcodes
 small_constants_and_moves_on_the_stack = refl
 
-arithmetic : ComeBack 1 (0x58 ∷ 0x59 ∷ 0x5A ∷ 0x5B ∷ 0x5C ∷ 0x5D ∷ 0x5E ∷ 0x5F ∷ 0x60 ∷ 0x61 ∷ 0x62 ∷ 0x63 ∷ 0x64 ∷ 0x65 ∷ 0x66 ∷ 0xD6 ∷ 0xD7 ∷ 0xD8 ∷ 0xD9 ∷ 0xDA ∷ 0xDB ∷ [])
+arithmetic : ComeBack 1 (0x58 ∷ 0x59 ∷ 0x5A ∷ 0x5B ∷ 0x5C ∷ 0x5D ∷ 0x5E ∷ 0x5F ∷ 0x60 ∷ 0x61 ∷ 0x62 ∷ 0x63 ∷ 0x64 ∷ 0x65 ∷ 0x66 ∷ [])
 unfolding opcodes
 arithmetic = refl
+
+checked_arithmetic : ComeBack 1 (0xD6 ∷ 0xD7 ∷ 0xD8 ∷ 0xD9 ∷ 0xDA ∷ 0xDB ∷ [])
+unfolding opcodes
+checked_arithmetic = refl
 
 conversions : ComeBack 1 (0x67 ∷ 0x68 ∷ 0x69 ∷ 0x6A ∷ 0x6D ∷ 0x6E ∷ 0xD1 ∷ 0xD2 ∷ 0xD3 ∷ 0xE0 ∷ [])
 unfolding opcodes
 conversions = refl
 
-checked_conversions : ComeBack 1 (0x82 ∷ 0x83 ∷ 0x84 ∷ 0x85 ∷ 0x86 ∷ 0x87 ∷ 0x88 ∷ 0x89 ∷ 0x8A ∷ 0x8B ∷ 0xB3 ∷ 0xB4 ∷ 0xB5 ∷ 0xB6 ∷ 0xB7 ∷ 0xB8 ∷ 0xB9 ∷ 0xBA ∷ 0xD4 ∷ 0xD5 ∷ [])
+checked_conversions : ComeBack 1 (0xB3 ∷ 0xB4 ∷ 0xB5 ∷ 0xB6 ∷ 0xB7 ∷ 0xB8 ∷ 0xB9 ∷ 0xBA ∷ 0xD4 ∷ 0xD5 ∷ [])
 unfolding opcodes
 checked_conversions = refl
+
+conversions_of_unsigned_numbers : ComeBack 1 (0x82 ∷ 0x83 ∷ 0x84 ∷ 0x85 ∷ 0x86 ∷ 0x87 ∷ 0x88 ∷ 0x89 ∷ 0x8A ∷ 0x8B ∷ [])
+unfolding opcodes
+conversions_of_unsigned_numbers = refl
 
 elements : ComeBack 1 (0x90 ∷ 0x91 ∷ 0x92 ∷ 0x93 ∷ 0x94 ∷ 0x95 ∷ 0x96 ∷ 0x97 ∷ 0x9A ∷ 0x9B ∷ 0x9C ∷ 0x9D ∷ 0x9E ∷ 0x9F ∷ 0xA2 ∷ [])
 unfolding opcodes
@@ -146,7 +151,8 @@ a_return = record {
 }
 
 -- the constant -5 in one byte
-a_constant : IsRawOf (record { offset = 3; next = 5; code = Move (Constant false 0xFFFF_FFFB) }) 0 (record { offset = 3; next = 5; opcode = 0x1F; operand = 0xFB; targets = [] })
+a_constant : IsRawOf (record { offset = 3; next = 5; code = Move (Constant false 0xFFFF_FFFB) }) 0
+    (record { offset = 3; next = 5; opcode = 0x1F; operand = 0xFB; targets = [] })
 unfolding opcodes operand_of
 a_constant = record {
   encodable = record { opcode = refl; operand = record { size_is = refl; fits = omega arith; no_targets = refl } };
@@ -155,7 +161,8 @@ a_constant = record {
 }
 
 -- a branch of two bytes back to offset 5
-a_branch : IsRawOf (record { offset = 10; next = 12; code = Branch 5 }) 0 (record { offset = 10; next = 12; opcode = 0x2B; operand = 0; targets = 5 ∷ [] })
+a_branch : IsRawOf (record { offset = 10; next = 12; code = Branch 5 }) 0
+    (record { offset = 10; next = 12; opcode = 0x2B; operand = 0; targets = 5 ∷ [] })
 unfolding opcodes operand_of
 a_branch = record {
   encodable = record {
@@ -166,7 +173,8 @@ a_branch = record {
   does = refl;
 }
 
-a_call : IsRawOf (record { offset = 5; next = 10; code = Call (Method 3) }) 0x0600_0004 (record { offset = 5; next = 10; opcode = 0x28; operand = 0x0600_0004; targets = [] })
+a_call : IsRawOf (record { offset = 5; next = 10; code = Call (Method 3) }) 0x0600_0004
+    (record { offset = 5; next = 10; opcode = 0x28; operand = 0x0600_0004; targets = [] })
 unfolding opcodes operand_of
 a_call = record {
   encodable = record { opcode = refl; operand = record { size_is = refl; fits = omega arith; no_targets = refl } };

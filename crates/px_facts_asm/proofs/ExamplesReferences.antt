@@ -7,13 +7,14 @@ use Rattle.px_asm_described.specs.Describes.{IsText}
 use Rattle.px_asm_heaps.specs.Heaps.{HasBlob, HasString}
 use Rattle.px_asm_heaps.specs.Numbers.{number_bytes}
 use Rattle.px_asm_heaps.proofs.Stands.{blob_stands}
-use Rattle.px_asm_law_written.specs.Store.{HasChecks, Store}
+use Rattle.px_sig.specs.Grammar.{method_sig}
+use Rattle.px_asm_law_written.specs.Store.{HasSig, check_sig, constructor_sig, HasChecks, Store}
 use Rattle.px_asm_law_written.specs.Tokens.{HasConstructor}
 use Rattle.px_program.specs.declared.program.Place.TheVariants.{Ref}
 use Rattle.px_sig.specs.declared.sig.SigType.{Str}
 use Rattle.px_tables.specs.declared.tables.Row.{Row}
 use Rattle.px_facts_asm.proofs.ExampleProgram.{example}
-use Rattle.px_facts_asm.proofs.SigWords.{grammar}
+use Rattle.px_facts_link.proofs.SigWords.{grammar}
 
 -- what holds of each element holds of all
 all_of : {X : Type 0} (Is : X → Type 0) (xs : List X) → AllByRecursion Is xs → All Is xs
@@ -68,21 +69,27 @@ takes_text_at_6 : HasBlob store.blob 6 takes_text
 unfolding number_bytes
 takes_text_at_6 = blob_stands store.blob (0 ∷ 4 ∷ takes_bool) takes_text 6 refl refl (omega arith)
 
+sig_of_checks : HasSig method_sig store.blob 1 check_sig
+unfolding grammar
+sig_of_checks = record { blob = takes_bool; stands = takes_bool_at_1; reads = refl }
+
+sig_of_constructor : HasSig method_sig store.blob 6 (constructor_sig (Str ∷ []))
+unfolding grammar
+sig_of_constructor = record { blob = takes_text; stands = takes_text_at_6; reads = refl }
+
 -- PexAssume and PexAssert have the rows 19 and 20 of TypeRef
 the_checks : HasChecks store
-unfolding grammar
 the_checks = record {
   assume = reference 153 1 1;
   assert = reference 161 1 1;
   others = reference 17 8 6 ∷ [];
   are = refl;
-  assume_is = record { parent_is = refl; name_is = is_true; sig_is = record { blob = takes_bool; stands = takes_bool_at_1; reads = refl }; zeros = refl };
-  assert_is = record { parent_is = refl; name_is = is_true; sig_is = record { blob = takes_bool; stands = takes_bool_at_1; reads = refl }; zeros = refl };
+  assume_is = record { parent_is = refl; name_is = is_true; sig_is = sig_of_checks; zeros = refl };
+  assert_is = record { parent_is = refl; name_is = is_true; sig_is = sig_of_checks; zeros = refl };
 }
 
 -- the constructor of `System.Exception`, which has row 2 of TypeRef, that takes a string: a body that takes the type before gives 9 for its parent
 the_constructor_behind_them : HasConstructor example store 1 (Ref 17 ∷ []) 0x0A00_0003
-unfolding grammar
 the_constructor_behind_them = record {
   table = refl;
   n = 2;
@@ -92,6 +99,6 @@ the_constructor_behind_them = record {
   is = record {
     types = Str ∷ [];
     takes = (IsText _ _ refl refl, tt);
-    is = record { parent_is = refl; name_is = constructor; sig_is = record { blob = takes_text; stands = takes_text_at_6; reads = refl }; zeros = refl };
+    is = record { parent_is = refl; name_is = constructor; sig_is = sig_of_constructor; zeros = refl };
   };
 }

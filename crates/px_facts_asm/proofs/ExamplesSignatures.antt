@@ -5,11 +5,12 @@ use Rattle.px_asm_heaps.specs.Types.{index_of, type_bytes}
 use Rattle.px_sig.specs.Grammar.{field_sig, locals_sig, method_sig, type_sig}
 use Rattle.px_sig.specs.declared.sig.Integer.TheVariants.{I4}
 use Rattle.px_sig.specs.declared.sig.SigType.{Array, Class, Int, Object, Str, Void}
-use Rattle.px_facts_asm.proofs.SigWords.{folds, grammar}
+use Rattle.px_facts_link.proofs.SigWords.{folds, grammar}
 
 -- METHODS
 
-a_static_method : method_sig (0x00 ∷ 0x02 ∷ 0x01 ∷ 0x1D ∷ 0x08 ∷ 0x0E ∷ []) ≡ Ok (record { has_this = false; plain = true; ret = Void; params = Array (Int I4) ∷ Str ∷ [] })
+a_static_method : method_sig (0x00 ∷ 0x02 ∷ 0x01 ∷ 0x1D ∷ 0x08 ∷ 0x0E ∷ [])
+    ≡ Ok (record { has_this = false; plain = true; ret = Void; params = Array (Int I4) ∷ Str ∷ [] })
 unfolding grammar
 a_static_method = refl
 
@@ -41,14 +42,17 @@ a_type_by_its_last_row : type_sig (0x12 ∷ 0xC3 ∷ 0xFF ∷ 0xFF ∷ 0xFD ∷ 
 unfolding grammar
 a_type_by_its_last_row = refl
 
-types_without_a_class : map type_bytes (Void ∷ Int I4 ∷ Str ∷ Object ∷ Array (Array (Int I4)) ∷ []) ≡ (0x01 ∷ []) ∷ (0x08 ∷ []) ∷ (0x0E ∷ []) ∷ (0x1C ∷ []) ∷ (0x1D ∷ 0x1D ∷ 0x08 ∷ []) ∷ []
+types_without_a_class : map type_bytes (Void ∷ Int I4 ∷ Str ∷ Object ∷ Array (Array (Int I4)) ∷ [])
+    ≡ (0x01 ∷ []) ∷ (0x08 ∷ []) ∷ (0x0E ∷ []) ∷ (0x1C ∷ []) ∷ (0x1D ∷ 0x1D ∷ 0x08 ∷ []) ∷ []
 types_without_a_class = simp folds refl
 
 -- a body that takes types of the assembly for ones that are spelled gives 0x12 ∷ 0x0A ∷ [] for the first
-classes_of_three_tables : map type_bytes (Class 0x0200_0002 ∷ Class 0x0100_0002 ∷ Class 0x1B00_0002 ∷ []) ≡ (0x12 ∷ 0x08 ∷ []) ∷ (0x12 ∷ 0x09 ∷ []) ∷ (0x12 ∷ 0x0A ∷ []) ∷ []
+classes_of_three_tables : map type_bytes (Class 0x0200_0002 ∷ Class 0x0100_0002 ∷ Class 0x1B00_0002 ∷ [])
+    ≡ (0x12 ∷ 0x08 ∷ []) ∷ (0x12 ∷ 0x09 ∷ []) ∷ (0x12 ∷ 0x0A ∷ []) ∷ []
 unfolding index_of number_bytes
 classes_of_three_tables = simp folds refl
 
-what_is_read_of_them : map type_sig ((0x12 ∷ 0x08 ∷ []) ∷ (0x12 ∷ 0x09 ∷ []) ∷ (0x12 ∷ 0x0A ∷ []) ∷ []) ≡ Ok (Class 0x0200_0002) ∷ Ok (Class 0x0100_0002) ∷ Ok (Class 0x1B00_0002) ∷ []
+what_is_read_of_them : map type_sig ((0x12 ∷ 0x08 ∷ []) ∷ (0x12 ∷ 0x09 ∷ []) ∷ (0x12 ∷ 0x0A ∷ []) ∷ [])
+    ≡ Ok (Class 0x0200_0002) ∷ Ok (Class 0x0100_0002) ∷ Ok (Class 0x1B00_0002) ∷ []
 unfolding grammar
 what_is_read_of_them = refl

@@ -7,7 +7,6 @@ use Rattle.px_asm_law_written.specs.Holds.{IsBodyIn, IsImplRow, methods_before}
 use Rattle.px_asm_law_written.specs.Store.{Store}
 use Rattle.px_asm_law_written.specs.Tokens.{HasTokenIn, first_field}
 use Rattle.px_code.specs.Body.{operand_of}
-use Rattle.px_link_opcodes.specs.Opcodes.{arithmetic_code, branch_by, checked_code, converted, converted_checked, converted_unsigned, flow_code, loaded, other_code, slot_move, stack_move, stored}
 use Rattle.px_program.specs.declared.instr.Callee.TheVariants.{Method}
 use Rattle.px_program.specs.declared.instr.Check.TheVariants.{Assert}
 use Rattle.px_program.specs.declared.instr.Code.{Code}
@@ -23,7 +22,8 @@ use Rattle.px_sig.specs.declared.sig.MethodSig.{MethodSig}
 use Rattle.px_sig.specs.declared.sig.SigType.{Array, Class, Int, Str, Void}
 use Rattle.px_tables.specs.Counts.{has_bit}
 use Rattle.px_facts_asm.proofs.ExampleProgram.{abstract_method, example, half_run, overriding_method, static_method}
-use Rattle.px_facts_asm.proofs.SigWords.{grammar}
+use Rattle.px_facts_link.proofs.InstrWords.{opcodes}
+use Rattle.px_facts_link.proofs.SigWords.{grammar}
 
 -- SIGNATURES of the methods: C has row 2 of TypeDef
 
@@ -128,7 +128,8 @@ clause class = record { kind = Catch; from = 1; to = 2; start = 3; stop = 4; cla
 classes_of_clauses : map (λ class. (raw_clause example (clause class)).class) (Some 1 ∷ Some 18 ∷ None ∷ []) ≡ 0x0100_0002 ∷ 0x0200_0002 ∷ 0 ∷ []
 classes_of_clauses = refl
 
-a_finally_clause : raw_clause example (record { kind = Finally; from = 1; to = 2; start = 3; stop = 4; class = None }) ≡ record { flags = 2; from = 1; to = 2; start = 3; stop = 4; class = 0 }
+a_finally_clause : raw_clause example (record { kind = Finally; from = 1; to = 2; start = 3; stop = 4; class = None })
+    ≡ record { flags = 2; from = 1; to = 2; start = 3; stop = 4; class = 0 }
 a_finally_clause = refl
 
 -- BODIES: each method's locals have a signature of their own, by the method's row
@@ -141,7 +142,7 @@ body_of_d : (s : Store) → IsBodyIn example s 3 (overriding_method Return) (rec
   code = record { offset = 0; next = 1; opcode = 0x2A; operand = 0; targets = [] } ∷ [];
   clauses = [];
 })
-unfolding operand_of arithmetic_code branch_by checked_code converted converted_checked converted_unsigned flow_code loaded other_code slot_move stack_move stored
+unfolding opcodes operand_of
 body_of_d s = record {
   formed = record { some = λ e. absurd (cc); follow = (refl, omega arith, tt); lead = refl; ranges = refl; few = omega arith };
   max_stack = refl;

@@ -7,4 +7,3 @@ mod ExamplesOpcodes
 mod ExamplesReferences
 mod ExamplesSignatures
 mod ExamplesWritten
-mod SigWords

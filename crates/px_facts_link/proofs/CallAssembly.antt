@@ -49,7 +49,8 @@ calls = view_of (record {
   -- Object at 0x01, System at 0x08, Exception at 0x0F, Int32 at 0x19, Thing at 0x1F, Other at 0x25, PexAssume at 0x2B, Microsoft.Pex.Framework at 0x35,
   -- Calls at 0x4D, IThing at 0x53, Late at 0x5A, f at 0x5F, m at 0x61, .ctor at 0x63, .cctor at 0x69, IsTrue at 0x70
   strings = texts (codes "Object" ∷ codes "System" ∷ codes "Exception" ∷ codes "Int32" ∷ codes "Thing" ∷ codes "Other" ∷ codes "PexAssume"
-      ∷ codes "Microsoft.Pex.Framework" ∷ codes "Calls" ∷ codes "IThing" ∷ codes "Late" ∷ codes "f" ∷ codes "m" ∷ codes ".ctor" ∷ codes ".cctor" ∷ codes "IsTrue" ∷ []);
+      ∷ codes "Microsoft.Pex.Framework" ∷ codes "Calls" ∷ codes "IThing" ∷ codes "Late" ∷ codes "f" ∷ codes "m" ∷ codes ".ctor"
+      ∷ codes ".cctor" ∷ codes "IsTrue" ∷ []);
   -- Hi with the byte behind it, and without
   user_strings = blobs ((0x48 ∷ 0 ∷ 0x69 ∷ 0 ∷ 0 ∷ []) ∷ (0x48 ∷ 0 ∷ 0x69 ∷ 0 ∷ []) ∷ []);
   -- methods at 1 and 5, a field at 9, methods at 12 and 17, types at 22, 25 and 27, a method at 31

@@ -140,7 +140,8 @@ forms : forms_of calls (returning Other) locals ≡ record { args = false ∷ fa
 unfolding grammar
 forms = simp folds refl
 
-a_static_method_has_no_receiver : forms_of calls (record { has_this = false; plain = true; ret = Void; params = Other ∷ [] }) [] ≡ record { args = true ∷ []; locals = []; ret = false }
+a_static_method_has_no_receiver : forms_of calls (record { has_this = false; plain = true; ret = Void; params = Other ∷ [] }) []
+    ≡ record { args = true ∷ []; locals = []; ret = false }
 unfolding grammar
 a_static_method_has_no_receiver = simp folds refl
 

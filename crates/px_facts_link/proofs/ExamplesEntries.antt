@@ -52,7 +52,8 @@ f_of_v = record {
 
 -- two methods of one name
 
-named_in_t : (row : ℕ) (name : List ℕ) → IsRow demo methods row → owner_of demo methods row ≡ 1 → name ≡ codes "Demo.T::" ++ text_at demo (cell demo methods row 3) → IsNamed demo name row
+named_in_t : (row : ℕ) (name : List ℕ) → IsRow demo methods row → owner_of demo methods row ≡ 1
+    → name ≡ codes "Demo.T::" ++ text_at demo (cell demo methods row 3) → IsNamed demo name row
 unfolding tables
 named_in_t row name there owner is = record {
   row = there;
@@ -156,7 +157,7 @@ an_array_of_arrays_is_no_argument = simp folds refl
 
 -- MAKERS: constructors that take nothing and have a body
 
--- a body that wants one for each method gives false
+-- a body that wants a maker for each method refuses it
 a_static_method_needs_no_maker : has_maker demo 1 (static (Int I4 ∷ [])) ≡ true
 unfolding grammar tables
 a_static_method_needs_no_maker = refl

@@ -85,7 +85,12 @@ m_of_derived_overrides_m_of_base = inr (record {
 -- a body that looks for the method itself gives Some 3
 m_of_derived_overrides_the_third : IsSlot shop numbers.rows 4 (record { is_virtual = true; overridden = Some 2 })
 unfolding tables
-m_of_derived_overrides_the_third = record { virtual_is = refl; nearest = Some 2; among = layouts.Nearest 4 2 m_of_derived_overrides_m_of_base refl; overridden_is = refl }
+m_of_derived_overrides_the_third = record {
+  virtual_is = refl;
+  nearest = Some 2;
+  among = layouts.Nearest 4 2 m_of_derived_overrides_m_of_base refl;
+  overridden_is = refl;
+}
 
 -- THE ORDER of rows: Base, Derived and App, and .ctor and M of Base, those of Derived, and Run
 

@@ -25,7 +25,8 @@ IsEarlier calls starts n rows k row = is_in (starts ++ flat_map calls (take k (t
 abbrev IsMet : (ℕ → List ℕ) → List ℕ → ℕ → List ℕ → Type 0
 IsMet calls starts n rows = (rows ≡ each_once (starts ++ flat_map calls (take n rows))) × AtEach (IsEarlier calls starts n rows) rows
 
-are_met : (v : View) (file : pe.View) (starts : List ℕ) (n : ℕ) (rows : List ℕ) → IsMet (calls_at v file overriders) starts n rows → AreMet v file overriders starts n rows
+are_met : (v : View) (file : pe.View) (starts : List ℕ) (n : ℕ) (rows : List ℕ) → IsMet (calls_at v file overriders) starts n rows
+    → AreMet v file overriders starts n rows
 are_met v file starts n rows is = record { same = is.0; earlier = at_each (IsEarlier (calls_at v file overriders) starts n rows) rows is.1 }
 
 -- what the three methods before Area of Square call
@@ -68,9 +69,17 @@ targets_from_main : each_once (flat_map (virtual_targets_at squares image) (2 �
 unfolding bodies
 targets_from_main = simp folds refl
 
-targets_from_area : each_once (flat_map (virtual_targets_at squares image) (1 ∷ [])) ≡ 1 ∷ []
+targets_from_both_areas : each_once (flat_map (virtual_targets_at squares image) (4 ∷ 2 ∷ 3 ∷ 1 ∷ [])) ≡ 4 ∷ 1 ∷ []
 unfolding bodies
-targets_from_area = simp folds refl
+targets_from_both_areas = simp folds refl
+
+targets_from_the_area_of_square : each_once (flat_map (virtual_targets_at squares image) (1 ∷ [])) ≡ 1 ∷ []
+unfolding bodies
+targets_from_the_area_of_square = simp folds refl
+
+what_has_no_body_names_no_targets : each_once (flat_map (virtual_targets_at squares image) (4 ∷ [])) ≡ []
+unfolding bodies
+what_has_no_body_names_no_targets = refl
 
 -- how many instructions each has
 counts_of_instructions : map (λ row. length (in_body (λ raw. 1 ∷ []) (whole_at squares image row))) (2 ∷ 3 ∷ 4 ∷ 1 ∷ []) ≡ 2 ∷ 6 ∷ 0 ∷ 2 ∷ []
@@ -87,8 +96,8 @@ by_main_alone : (calls : ℕ → List ℕ) → calls 2 ≡ 3 ∷ [] → IsMet ca
 by_main_alone calls main = (simp main refl, (refl, (simp main refl, tt)))
 
 -- Sum is the second method, whatever is wrong with the fourth
-refused_second : (v : View) (file : pe.View) (fault : PlacedFault) → calls_at v file overriders 2 ≡ 3 ∷ [] → IsOk (whole_at v file 2) → whole_at v file 3 ≡ Err fault
-    → IsFirstRefused v file overriders (2 ∷ []) 1 fault
+refused_second : (v : View) (file : pe.View) (fault : PlacedFault) → calls_at v file overriders 2 ≡ 3 ∷ [] → IsOk (whole_at v file 2)
+    → whole_at v file 3 ≡ Err fault → IsFirstRefused v file overriders (2 ∷ []) 1 fault
 refused_second v file fault main read refused = record {
   rows = 2 ∷ 3 ∷ [];
   met = are_met _ _ _ _ _ (by_main_alone (calls_at v file overriders) main);
@@ -112,33 +121,38 @@ by_three calls are =
     (simp (are.main, are.sum, are.shape) refl, (refl, (simp are.main refl, (simp (are.main, are.sum) refl, (simp (are.main, are.sum) refl, tt)))))
 
 -- Area of Square is the fourth method
-refused_fourth : (v : View) (file : pe.View) (fault : PlacedFault) → AreCalls (calls_at v file overriders) → IsOk (whole_at v file 2) → IsOk (whole_at v file 3)
-    → IsOk (whole_at v file 4) → whole_at v file 1 ≡ Err fault → IsFirstRefused v file overriders (2 ∷ []) 3 fault
+refused_fourth : (v : View) (file : pe.View) (fault : PlacedFault) → AreCalls (calls_at v file overriders) → IsOk (whole_at v file 2)
+    → IsOk (whole_at v file 3) → IsOk (whole_at v file 4) → whole_at v file 1 ≡ Err fault → IsFirstRefused v file overriders (2 ∷ []) 3 fault
 refused_fourth v file fault are main sum shape refused = record {
   rows = 2 ∷ 3 ∷ 4 ∷ 1 ∷ [];
   met = are_met _ _ _ _ _ (by_three (calls_at v file overriders) are);
   method = 1;
   at = refl;
   refused = refused;
-  first = λ k other less at. at_each (IsRead v file 3) (2 ∷ 3 ∷ 4 ∷ 1 ∷ []) ((λ less. main), ((λ less. sum), ((λ less. shape), ((λ less. absurd (omega arith)), tt)))) k other at less;
+  first = λ k other less at. at_each (IsRead v file 3) (2 ∷ 3 ∷ 4 ∷ 1 ∷ [])
+      ((λ less. main), ((λ less. sum), ((λ less. shape), ((λ less. absurd (omega arith)), tt)))) k other at less;
 }
 
 locals_of_a_method_signature : Blames squares (image_with 0x2A 2 0x11) overriders (2 ∷ []) (Bad BadHeader 8 3)
 unfolding bodies
 locals_of_a_method_signature =
-    refused_fourth squares (image_with 0x2A 2 0x11) (BadHeader, 8) (record { main = refl; sum = simp folds refl; shape = refl }) refl refl refl reach.locals_of_a_method_signature
+    refused_fourth squares (image_with 0x2A 2 0x11) (BadHeader, 8) (record { main = refl; sum = simp folds refl; shape = refl })
+    refl refl refl reach.locals_of_a_method_signature
 
 locals_of_no_row : Blames squares (image_with 0x2A 3 0x11) overriders (2 ∷ []) (Bad BadHeader 8 3)
 unfolding bodies
 locals_of_no_row =
-    refused_fourth squares (image_with 0x2A 3 0x11) (BadHeader, 8) (record { main = refl; sum = simp folds refl; shape = refl }) refl refl refl reach.locals_of_no_row
+    refused_fourth squares (image_with 0x2A 3 0x11) (BadHeader, 8) (record { main = refl; sum = simp folds refl; shape = refl })
+    refl refl refl reach.locals_of_no_row
 
 locals_of_a_method : Blames squares (image_with 0x2A 1 0x06) overriders (2 ∷ []) (Bad BadHeader 8 3)
 unfolding bodies
 locals_of_a_method =
-    refused_fourth squares (image_with 0x2A 1 0x06) (BadHeader, 8) (record { main = refl; sum = simp folds refl; shape = refl }) refl refl refl reach.locals_of_a_method
+    refused_fourth squares (image_with 0x2A 1 0x06) (BadHeader, 8) (record { main = refl; sum = simp folds refl; shape = refl })
+    refl refl refl reach.locals_of_a_method
 
 no_section_holds_area : Blames (squares_with 0x0100_206C) image overriders (2 ∷ []) (Bad Cut 0 3)
 unfolding bodies
 no_section_holds_area =
-    refused_fourth (squares_with 0x0100_206C) image (Cut, 0) (record { main = refl; sum = simp folds refl; shape = refl }) refl refl refl reach.no_section_holds_area
+    refused_fourth (squares_with 0x0100_206C) image (Cut, 0) (record { main = refl; sum = simp folds refl; shape = refl })
+    refl refl refl reach.no_section_holds_area

@@ -37,7 +37,8 @@ abbrev clause : ClauseKind → Clause
 clause kind = record { kind = kind; from = 1; to = 2; start = 3; stop = 4; class = Some 6 }
 
 -- a body that takes fault clauses for finally ones gives clause Finally for the last
-kinds_of_clauses : map (λ flags. clause_of (Some 6) (raw flags 5)) (0 ∷ 1 ∷ 2 ∷ 4 ∷ []) ≡ clause Catch ∷ clause Filter ∷ clause Finally ∷ clause Fault ∷ []
+kinds_of_clauses : map (λ flags. clause_of (Some 6) (raw flags 5)) (0 ∷ 1 ∷ 2 ∷ 4 ∷ [])
+    ≡ clause Catch ∷ clause Filter ∷ clause Finally ∷ clause Fault ∷ []
 kinds_of_clauses = refl
 
 -- THE TYPES THAT METHODS MEET: the owner, those of the signature and of the locals, those that instructions name, and the classes of clauses
@@ -74,8 +75,8 @@ floats = record {
 abbrev instr : Code → Instr
 instr made = record { offset = 0; next = 1; code = made }
 
--- A body that takes methods of instances for static ones gives true; one that writes a single colon "Late:m"; one that goes by the arguments gives Move (Local 0),
--- and one that bars only returns Move (Argument 2).
+-- A body that takes methods of instances for static ones gives true; one that writes a single colon "Late:m"; one that goes by the arguments
+-- Move (Local 0), and one that bars only returns Move (Argument 2).
 a_method_of_instances : IsMethod calls numbers 7 floats (record {
   name = codes "Late::m";
   owner = 19;

@@ -1,5 +1,5 @@
 -- How types are numbered, and what a program says of them.
-use Rattle.std.proofs.Common.{◌≡◌, List, [], ◌∷◌, ◌++◌, refl, subst, sym, map, true, false, Some, None}
+use Rattle.std.proofs.Common.{◌≡◌, List, [], ◌∷◌, ◌++◌, refl, subst, sym, map, true, false, ℕ, Option, Some, None}
 use Rattle.std.specs.Prelude.{codes}
 use Rattle.px_link_types.specs.Infos.{IsInfoOf}
 use Rattle.px_link_types.specs.Keys.{alone}
@@ -7,8 +7,10 @@ use Rattle.px_link_types.specs.Numbers.{Numbers, Ends, Passes, Meets, is_numbere
 use Rattle.px_link_types.specs.declared.key.Key.{Key}
 use Rattle.px_link_types.specs.declared.key.Leaf.TheVariants.{Number, Library, Defined}
 use Rattle.px_meta.specs.Chains as chains
+use Rattle.px_program.specs.declared.program.Place.{Place}
 use Rattle.px_program.specs.declared.program.Place.TheVariants as places
 use Rattle.px_program.specs.declared.program.Place.TheVariants.{Ref}
+use Rattle.px_program.specs.declared.program.TypeInfo.{TypeInfo}
 use Rattle.px_sig.specs.declared.sig.Integer.TheVariants.{I4}
 use Rattle.px_facts_link.proofs.ShapeAssembly.{arrays, shapes}
 use Rattle.px_facts_link.proofs.ExamplesTypes.{no_type_derives_from_string, own_types_of_base, own_types_of_inner, own_types_of_shape}
@@ -58,14 +60,22 @@ text_is_met : Numbers shapes (library_keys ++ met) (alone (Defined 6) ∷ []) ke
 unfolding tables
 text_is_met = meets refl no_type_derives_from_string (passes refl (Ends _))
 
-places_of_keys : map (place_in keys) (alone (Number I4) ∷ alone (Library 17) ∷ alone (Defined 3) ∷ arrays 2 (Number I4) ∷ []) ≡ places.I4 ∷ Ref 17 ∷ Ref 21 ∷ Ref 23 ∷ []
+places_of_keys : map (place_in keys) (alone (Number I4) ∷ alone (Library 17) ∷ alone (Defined 3) ∷ arrays 2 (Number I4) ∷ [])
+    ≡ places.I4 ∷ Ref 17 ∷ Ref 21 ∷ Ref 23 ∷ []
 places_of_keys = refl
 
 -- WHAT A PROGRAM SAYS of these types, from number 18 on
 
+abbrev array : Place → TypeInfo
+array element = record { name = []; base = Some 0; element = Some element; fields = []; statics = []; overrides = [] }
+
+-- a class without static fields
+abbrev class : List ℕ → Option ℕ → List Place → TypeInfo
+class name base fields = record { name = name; base = base; element = None; fields = fields; statics = []; overrides = [] }
+
 -- an array type has no name; its elements are Shape
 -- a body that takes the array for its own element gives Ref 18
-an_array_of_shape : IsInfoOf shapes keys 1 (Defined 1) (record { name = []; base = Some 0; element = Some (Ref 19); fields = []; statics = []; overrides = [] })
+an_array_of_shape : IsInfoOf shapes keys 1 (Defined 1) (array (Ref 19))
 an_array_of_shape = refl
 
 -- a body that exchanges them gives Ref 23 for its fields
@@ -87,7 +97,7 @@ shape = record {
   no_overrides = refl;
 }
 
-base : IsInfoOf shapes keys 0 (Defined 2) (record { name = codes "Demo.Base"; base = Some 0; element = None; fields = Ref 0 ∷ Ref 19 ∷ []; statics = []; overrides = [] })
+base : IsInfoOf shapes keys 0 (Defined 2) (class (codes "Demo.Base") (Some 0) (Ref 0 ∷ Ref 19 ∷ []))
 unfolding grammar tables
 base = record {
   name = record { outers = []; chain = chains.Ends 2 refl; is = refl };
@@ -99,7 +109,7 @@ base = record {
 }
 
 -- a body that writes its own name for each outer type gives "Inner/Inner"
-inner : IsInfoOf shapes keys 0 (Defined 3) (record { name = codes "Demo.Base/Inner"; base = Some 1; element = None; fields = places.I4 ∷ []; statics = []; overrides = [] })
+inner : IsInfoOf shapes keys 0 (Defined 3) (class (codes "Demo.Base/Inner") (Some 1) (places.I4 ∷ []))
 unfolding grammar tables
 inner = record {
   name = record { outers = 2 ∷ []; chain = chains.GoesOn 3 2 [] refl (chains.Ends 2 refl); is = refl };
@@ -110,17 +120,17 @@ inner = record {
   no_overrides = refl;
 }
 
-an_array_of_string : IsInfoOf shapes keys 1 (Library 17) (record { name = []; base = Some 0; element = Some (Ref 17); fields = []; statics = []; overrides = [] })
+an_array_of_string : IsInfoOf shapes keys 1 (Library 17) (array (Ref 17))
 an_array_of_string = refl
 
-an_array_of_arrays : IsInfoOf shapes keys 2 (Number I4) (record { name = []; base = Some 0; element = Some (Ref 24); fields = []; statics = []; overrides = [] })
+an_array_of_arrays : IsInfoOf shapes keys 2 (Number I4) (array (Ref 24))
 an_array_of_arrays = refl
 
-an_array_of_int32 : IsInfoOf shapes keys 1 (Number I4) (record { name = []; base = Some 0; element = Some places.I4; fields = []; statics = []; overrides = [] })
+an_array_of_int32 : IsInfoOf shapes keys 1 (Number I4) (array places.I4)
 an_array_of_int32 = refl
 
 -- a body that lets it derive from String gives Some 17
-text : IsInfoOf shapes keys 0 (Defined 6) (record { name = codes "Demo.Text"; base = Some 0; element = None; fields = []; statics = []; overrides = [] })
+text : IsInfoOf shapes keys 0 (Defined 6) (class (codes "Demo.Text") (Some 0) [])
 unfolding tables
 text = record {
   name = record { outers = []; chain = chains.Ends 6 refl; is = refl };

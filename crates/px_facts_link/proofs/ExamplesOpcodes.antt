@@ -73,12 +73,14 @@ null_and_moves_on_the_stack = refl
 abbrev patterns : List ℕ → List Code
 patterns numbers = map (λ pattern. Move (Constant false pattern)) numbers
 
-minus_one_to_eight : each (0x15 ∷ 0x16 ∷ 0x17 ∷ 0x18 ∷ 0x19 ∷ 0x1A ∷ 0x1B ∷ 0x1C ∷ 0x1D ∷ 0x1E ∷ []) ≡ patterns (4294967295 ∷ 0 ∷ 1 ∷ 2 ∷ 3 ∷ 4 ∷ 5 ∷ 6 ∷ 7 ∷ 8 ∷ [])
+minus_one_to_eight : each (0x15 ∷ 0x16 ∷ 0x17 ∷ 0x18 ∷ 0x19 ∷ 0x1A ∷ 0x1B ∷ 0x1C ∷ 0x1D ∷ 0x1E ∷ [])
+    ≡ patterns (4294967295 ∷ 0 ∷ 1 ∷ 2 ∷ 3 ∷ 4 ∷ 5 ∷ 6 ∷ 7 ∷ 8 ∷ [])
 unfolding opcodes
 minus_one_to_eight = refl
 
 -- a body that reads the byte unsigned gives 128 and 255 for the last two
-constants_of_one_byte : map (λ byte. does (with_number 0x1F byte)) (0x00 ∷ 0x7F ∷ 0x80 ∷ 0xFF ∷ []) ≡ patterns (0 ∷ 127 ∷ 4294967168 ∷ 4294967295 ∷ [])
+constants_of_one_byte : map (λ byte. does (with_number 0x1F byte)) (0x00 ∷ 0x7F ∷ 0x80 ∷ 0xFF ∷ [])
+    ≡ patterns (0 ∷ 127 ∷ 4294967168 ∷ 4294967295 ∷ [])
 unfolding opcodes
 constants_of_one_byte = refl
 
@@ -86,7 +88,8 @@ constants_of_four_bytes : map (λ number. does (with_number 0x20 number)) (0x010
 unfolding opcodes
 constants_of_four_bytes = refl
 
-constants_of_eight_bytes : map (λ number. does (with_number 0x21 number)) (1 ∷ 0x100000000 ∷ 0xFFFFFFFFFFFFFFFE ∷ []) ≡ Move (Constant true 1) ∷ Move (Constant true 4294967296) ∷ Move (Constant true 18446744073709551614) ∷ []
+constants_of_eight_bytes : map (λ number. does (with_number 0x21 number)) (1 ∷ 0x100000000 ∷ 0xFFFFFFFFFFFFFFFE ∷ [])
+    ≡ Move (Constant true 1) ∷ Move (Constant true 4294967296) ∷ Move (Constant true 18446744073709551614) ∷ []
 unfolding opcodes
 constants_of_eight_bytes = refl
 
@@ -125,28 +128,33 @@ checked_differences : each (0xDA ∷ 0xDB ∷ []) ≡ Checked checked.Sub true �
 unfolding opcodes
 checked_differences = refl
 
-comparisons : each (0xFE01 ∷ 0xFE02 ∷ 0xFE03 ∷ 0xFE04 ∷ 0xFE05 ∷ []) ≡ Compare Eq true ∷ Compare Gt true ∷ Compare Gt false ∷ Compare Lt true ∷ Compare Lt false ∷ []
+comparisons : each (0xFE01 ∷ 0xFE02 ∷ 0xFE03 ∷ 0xFE04 ∷ 0xFE05 ∷ [])
+    ≡ Compare Eq true ∷ Compare Gt true ∷ Compare Gt false ∷ Compare Lt true ∷ Compare Lt false ∷ []
 unfolding opcodes
 comparisons = refl
 
 -- CONVERSIONS: `conv`, `conv.ovf` and `conv.ovf` with `.un`
 
 -- a body that converts to unsigned numbers gives Convert U4 for the third
-conversions : each (0x67 ∷ 0x68 ∷ 0x69 ∷ 0x6A ∷ 0x6D ∷ 0x6E ∷ 0xD1 ∷ 0xD2 ∷ 0xD3 ∷ 0xE0 ∷ []) ≡ map Convert (I1 ∷ I2 ∷ I4 ∷ I8 ∷ U4 ∷ U8 ∷ U2 ∷ U1 ∷ N ∷ UN ∷ [])
+conversions : each (0x67 ∷ 0x68 ∷ 0x69 ∷ 0x6A ∷ 0x6D ∷ 0x6E ∷ 0xD1 ∷ 0xD2 ∷ 0xD3 ∷ 0xE0 ∷ [])
+    ≡ map Convert (I1 ∷ I2 ∷ I4 ∷ I8 ∷ U4 ∷ U8 ∷ U2 ∷ U1 ∷ N ∷ UN ∷ [])
 unfolding opcodes
 conversions = refl
 
-checked_conversions : each (0xB3 ∷ 0xB4 ∷ 0xB5 ∷ 0xB6 ∷ 0xB7 ∷ 0xB8 ∷ 0xB9 ∷ 0xBA ∷ 0xD4 ∷ 0xD5 ∷ []) ≡ map (λ to. ConvertChecked to true) (I1 ∷ U1 ∷ I2 ∷ U2 ∷ I4 ∷ U4 ∷ I8 ∷ U8 ∷ N ∷ UN ∷ [])
+checked_conversions : each (0xB3 ∷ 0xB4 ∷ 0xB5 ∷ 0xB6 ∷ 0xB7 ∷ 0xB8 ∷ 0xB9 ∷ 0xBA ∷ 0xD4 ∷ 0xD5 ∷ [])
+    ≡ map (λ to. ConvertChecked to true) (I1 ∷ U1 ∷ I2 ∷ U2 ∷ I4 ∷ U4 ∷ I8 ∷ U8 ∷ N ∷ UN ∷ [])
 unfolding opcodes
 checked_conversions = refl
 
-conversions_of_unsigned_numbers : each (0x82 ∷ 0x83 ∷ 0x84 ∷ 0x85 ∷ 0x86 ∷ 0x87 ∷ 0x88 ∷ 0x89 ∷ 0x8A ∷ 0x8B ∷ []) ≡ map (λ to. ConvertChecked to false) (I1 ∷ I2 ∷ I4 ∷ I8 ∷ U1 ∷ U2 ∷ U4 ∷ U8 ∷ N ∷ UN ∷ [])
+conversions_of_unsigned_numbers : each (0x82 ∷ 0x83 ∷ 0x84 ∷ 0x85 ∷ 0x86 ∷ 0x87 ∷ 0x88 ∷ 0x89 ∷ 0x8A ∷ 0x8B ∷ [])
+    ≡ map (λ to. ConvertChecked to false) (I1 ∷ I2 ∷ I4 ∷ I8 ∷ U1 ∷ U2 ∷ U4 ∷ U8 ∷ N ∷ UN ∷ [])
 unfolding opcodes
 conversions_of_unsigned_numbers = refl
 
 -- ELEMENTS of arrays: `ldelem` and `stelem`
 
-loads : each (0x90 ∷ 0x91 ∷ 0x92 ∷ 0x93 ∷ 0x94 ∷ 0x95 ∷ 0x96 ∷ 0x97 ∷ []) ≡ map (λ integer. Element false (Integer integer)) (I1 ∷ U1 ∷ I2 ∷ U2 ∷ I4 ∷ U4 ∷ I8 ∷ N ∷ [])
+loads : each (0x90 ∷ 0x91 ∷ 0x92 ∷ 0x93 ∷ 0x94 ∷ 0x95 ∷ 0x96 ∷ 0x97 ∷ [])
+    ≡ map (λ integer. Element false (Integer integer)) (I1 ∷ U1 ∷ I2 ∷ U2 ∷ I4 ∷ U4 ∷ I8 ∷ N ∷ [])
 unfolding opcodes
 loads = refl
 

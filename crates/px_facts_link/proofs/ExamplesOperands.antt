@@ -110,7 +110,7 @@ a_static_field : operand_of calls 0x80 0x0400_0002 ≡ Some (operand.Field 2)
 unfolding operand_of grammar tables
 a_static_field = simp folds refl
 
--- a body that runs on where the type would be initialised gives Some (operand.Field 4), and so does one that looks for the initialiser in the type before
+-- a body that runs on where the type would be initialised gives Some (operand.Field 4), and so does one that looks for it in the type before
 no_static_field_of_a_type_with_an_initialiser : operand_of calls 0x7E 0x0400_0004 ≡ None
 unfolding operand_of grammar tables
 no_static_field_of_a_type_with_an_initialiser = simp folds refl

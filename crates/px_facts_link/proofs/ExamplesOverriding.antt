@@ -1,5 +1,5 @@
 -- Which methods override others, at once and through others, and their order: by the names of their owners, and then by row.
-use Rattle.std.proofs.Common.{◌≡◌, ◌≢◌, ◌⊎◌, inl, inr, ℕ, ◌<◌, ◌≤◌, List, [], ◌∷◌, refl, subst, true, Some, arith}
+use Rattle.std.proofs.Common.{◌≡◌, ◌≢◌, ◌⊎◌, inl, inr, ℕ, Option, ◌<◌, ◌≤◌, List, [], ◌∷◌, refl, subst, true, Some, arith}
 use Rattle.std.specs.Prelude.{codes}
 use Rattle.px_link_reach.specs.Overriders.{IsBefore, OverridesThrough, Directly, Through}
 use Rattle.px_meta.specs.Chains as chains
@@ -107,11 +107,15 @@ p_of_d_may = record {
 
 -- WHAT OVERRIDES by its name: no row of MethodImpl says what these methods override
 
-bodies_said : (row method : ℕ) → IsRow virtuals method_impls row → row_by virtuals methods 1 (cell virtuals method_impls row 1) ≡ Some method → (method ≡ 6) ⊎ (method ≡ 9)
+-- the method whose body a row says it is
+abbrev body_said : ℕ → Option ℕ
+body_said row = row_by virtuals methods 1 (cell virtuals method_impls row 1)
+
+bodies_said : (row method : ℕ) → IsRow virtuals method_impls row → body_said row ≡ Some method → (method ≡ 6) ⊎ (method ≡ 9)
 unfolding tables
 bodies_said row method there is = elim (one_or_two row there.some there.few) [
-  | inl one ↦ let said : Some 6 ≡ Some method = subst (λ r. row_by virtuals methods 1 (cell virtuals method_impls r 1) ≡ Some method) one is in inl (cc)
-  | inr two ↦ let said : Some 9 ≡ Some method = subst (λ r. row_by virtuals methods 1 (cell virtuals method_impls r 1) ≡ Some method) two is in inr (cc)
+  | inl one ↦ let said : Some 6 ≡ Some method = subst (λ r. body_said r ≡ Some method) one is in inl (cc)
+  | inr two ↦ let said : Some 9 ≡ Some method = subst (λ r. body_said r ≡ Some method) two is in inr (cc)
 ]
 
 nobody_says : (method : ℕ) → method ≢ 6 → method ≢ 9 → (row other : ℕ) → IsSaid virtuals row method other → ⊥
@@ -172,7 +176,8 @@ unfolding tables
 p_of_d_overrides_k_of_a = inl (record {
   row = 2;
   said = record { there = record { some = omega arith; few = omega arith }; body = refl; declaration = refl; may = p_of_d_may };
-  first = λ row other less said. let body : Some 6 ≡ Some 9 = subst (λ r. row_by virtuals methods 1 (cell virtuals method_impls r 1) ≡ Some 9) (first_row row less said.there.some) said.body in absurd (cc);
+  first = λ row other less said.
+      let body : Some 6 ≡ Some 9 = subst (λ r. body_said r ≡ Some 9) (first_row row less said.there.some) said.body in absurd (cc);
 })
 
 -- THROUGH OTHERS
@@ -192,7 +197,13 @@ type_e = record { outers = []; chain = chains.Ends 3 refl; is = refl }
 
 b_comes_before_e : IsBefore virtuals 7 5
 unfolding tables
-b_comes_before_e = record { type = codes "B"; other_type = codes "E"; type_is = record { outers = []; chain = chains.Ends 4 refl; is = refl }; other_type_is = type_e; before = tt }
+b_comes_before_e = record {
+  type = codes "B";
+  other_type = codes "E";
+  type_is = record { outers = []; chain = chains.Ends 4 refl; is = refl };
+  other_type_is = type_e;
+  before = tt;
+}
 
 -- a body that takes later rows first has q of E before m of E
 m_of_e_comes_before_q_of_e : IsBefore virtuals 5 6
@@ -202,4 +213,10 @@ m_of_e_comes_before_q_of_e = record { type = codes "E"; other_type = codes "E"; 
 -- a body that goes by row alone has m of C before those of E; the name of C is "N.C"
 e_comes_before_c : IsBefore virtuals 6 3
 unfolding tables
-e_comes_before_c = record { type = codes "E"; other_type = codes "N.C"; type_is = type_e; other_type_is = record { outers = []; chain = chains.Ends 2 refl; is = refl }; before = tt }
+e_comes_before_c = record {
+  type = codes "E";
+  other_type = codes "N.C";
+  type_is = type_e;
+  other_type_is = record { outers = []; chain = chains.Ends 2 refl; is = refl };
+  before = tt;
+}

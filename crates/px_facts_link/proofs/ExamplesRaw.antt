@@ -34,7 +34,18 @@ constant pattern = Move (Constant false pattern)
 abbrev program : List TypeInfo → List Place → List Instr → List Clause → Program
 program types params code clauses = record {
   types = types;
-  methods = record { name = codes "raw"; owner = 0; is_static = true; params = params; ret = Some I4; locals = []; max_stack = 8; code = code; clauses = clauses } ∷ [];
+  methods =
+      record {
+        name = codes "raw";
+        owner = 0;
+        is_static = true;
+        params = params;
+        ret = Some I4;
+        locals = [];
+        max_stack = 8;
+        code = code;
+        clauses = clauses;
+      } ∷ [];
   entry = 0;
   maker = None;
   layout = no_layout;
@@ -82,7 +93,13 @@ abbrev with_locals : List ℕ
 with_locals = 0x13 ∷ 0x30 ∷ 8 ∷ 0 ∷ 1 ∷ 0 ∷ 0 ∷ 0 ∷ 1 ∷ 0 ∷ 0 ∷ 0x11 ∷ 0x2A ∷ []
 
 abbrev locals_body : Body
-locals_body = record { max_stack = 8; init_locals = true; locals_token = 0x1100_0001; code = record { offset = 0; next = 1; opcode = 0x2A; operand = 0; targets = [] } ∷ []; clauses = [] }
+locals_body = record {
+  max_stack = 8;
+  init_locals = true;
+  locals_token = 0x1100_0001;
+  code = record { offset = 0; next = 1; opcode = 0x2A; operand = 0; targets = [] } ∷ [];
+  clauses = [];
+}
 
 a_body_with_locals : body_of with_locals ≡ Ok locals_body
 unfolding bodies

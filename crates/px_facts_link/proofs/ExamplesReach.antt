@@ -10,7 +10,7 @@ use Rattle.px_facts_link.proofs.SquareAssembly.{bodies, image, image_with, overr
 
 -- BODIES with the types of their locals
 
--- a body that reads one byte less is Err (Cut, 18), since the section ends there
+-- a body that reads one byte less gives Err (Cut, 17), since the section ends there
 area_of_square : whole_at squares image 1 ≡ Ok (record {
   body = record {
     max_stack = 8;
@@ -27,7 +27,8 @@ area_of_square : whole_at squares image 1 ≡ Ok (record {
 unfolding bodies
 area_of_square = refl
 
-area_of_shape_has_no_body : whole_at squares image 4 ≡ Ok (record { body = record { max_stack = 0; init_locals = false; locals_token = 0; code = []; clauses = [] }; locals = [] })
+area_of_shape_has_no_body : whole_at squares image 4
+    ≡ Ok (record { body = record { max_stack = 0; init_locals = false; locals_token = 0; code = []; clauses = [] }; locals = [] })
 unfolding bodies
 area_of_shape_has_no_body = refl
 

@@ -12,7 +12,8 @@ use Rattle.px_facts_link.proofs.TableWords.{tables}
 -- CLASSES that tokens name: of the library
 
 -- a body that takes each reference but those of other assemblies gives None for the last
-types_of_the_library : map (class_of shapes) (0x0100_0001 ∷ 0x0100_0002 ∷ 0x0100_0005 ∷ 0x0100_0007 ∷ []) ≡ Some (Library 0) ∷ Some (Library 1) ∷ Some (Library 17) ∷ Some (Library 1) ∷ []
+types_of_the_library : map (class_of shapes) (0x0100_0001 ∷ 0x0100_0002 ∷ 0x0100_0005 ∷ 0x0100_0007 ∷ [])
+    ≡ Some (Library 0) ∷ Some (Library 1) ∷ Some (Library 17) ∷ Some (Library 1) ∷ []
 unfolding tables
 types_of_the_library = refl
 
@@ -58,7 +59,8 @@ classes_by_their_rows = refl
 
 -- TYPES OF SIGNATURES
 
-types_without_a_class : map (key_of shapes) (Int I4 ∷ Str ∷ Object ∷ []) ≡ Some (alone (Number I4)) ∷ Some (alone (Library 17)) ∷ Some (alone (Library 0)) ∷ []
+types_without_a_class : map (key_of shapes) (Int I4 ∷ Str ∷ Object ∷ [])
+    ≡ Some (alone (Number I4)) ∷ Some (alone (Library 17)) ∷ Some (alone (Library 0)) ∷ []
 unfolding tables
 types_without_a_class = simp folds refl
 
@@ -98,7 +100,8 @@ unfolding tables
 static_fields_of_shape = refl
 
 -- a body that takes the static fields first gives arrays 2 (Number I4) behind the base
-pub own_types_of_shape : own_types shapes (alone (Defined 1)) ≡ alone (Defined 2) ∷ alone (Defined 3) ∷ object ∷ arrays 1 (Library 17) ∷ object ∷ arrays 2 (Number I4) ∷ []
+pub own_types_of_shape : own_types shapes (alone (Defined 1))
+    ≡ alone (Defined 2) ∷ alone (Defined 3) ∷ object ∷ arrays 1 (Library 17) ∷ object ∷ arrays 2 (Number I4) ∷ []
 unfolding grammar tables
 own_types_of_shape = simp folds refl
 

@@ -14,12 +14,12 @@ mod ExamplesOverriding
 mod ExamplesRaw
 mod ExamplesReach
 mod ExamplesTypes
-mod InstrWords
+pub mod InstrWords
 mod ListWords
 mod NameAssembly
 mod ShapeAssembly
 mod ShopAssembly
-mod SigWords
+pub mod SigWords
 mod SquareAssembly
 mod TableWords
 mod VirtualAssembly

@@ -1,4 +1,4 @@
--- An assembly of a class with a virtual method, one that derives from it and overrides the method, and one that makes an object of that and calls the method.
+-- An assembly of a class with a virtual method, one that derives from it and overrides the method, and one that makes an object and calls the method.
 use Rattle.std.specs.Prelude.{ℕ, List, [], ◌∷◌, ◌++◌, codes}
 use Rattle.px_link_methods.specs.Codes.{Numbering}
 use Rattle.px_link_types.specs.Keys.{alone}
@@ -32,7 +32,8 @@ shop_with address = view_of (record {
   type_specs = [];
   nested = [];
   -- Object at 0x01, System at 0x08, Shop at 0x0F, Base at 0x14, Derived at 0x19, App at 0x21, .ctor at 0x25, M at 0x2B, Run at 0x2D, Go at 0x31
-  strings = texts (codes "Object" ∷ codes "System" ∷ codes "Shop" ∷ codes "Base" ∷ codes "Derived" ∷ codes "App" ∷ codes ".ctor" ∷ codes "M" ∷ codes "Run" ∷ codes "Go" ∷ []);
+  strings = texts (codes "Object" ∷ codes "System" ∷ codes "Shop" ∷ codes "Base" ∷ codes "Derived" ∷ codes "App" ∷ codes ".ctor"
+      ∷ codes "M" ∷ codes "Run" ∷ codes "Go" ∷ []);
   user_strings = [];
   -- methods of instances that return nothing and an int32 at 1 and 5, a static one at 9
   blob = blobs ((0x20 ∷ 0 ∷ 1 ∷ []) ∷ (0x20 ∷ 0 ∷ 8 ∷ []) ∷ (0 ∷ 0 ∷ 8 ∷ []) ∷ []);

@@ -24,16 +24,20 @@ of_object {X} by = ap (fold-SigType X by) (sym rolls-Object) ∙ fold-roll-SigTy
 pub of_class : {X : Type 0} (by : SigType-F X → X) (token : ℕ) → fold-SigType X by (Class token) ≡ by (layers.Class token)
 of_class {X} by token = ap (fold-SigType X by) (sym (rolls-Class token)) ∙ fold-roll-SigType X by (layers.Class token)
 
-pub of_array : {X : Type 0} (by : SigType-F X → X) (element : SigType) → fold-SigType X by (Array element) ≡ by (layers.Array (fold-SigType X by element))
+pub of_array : {X : Type 0} (by : SigType-F X → X) (element : SigType)
+    → fold-SigType X by (Array element) ≡ by (layers.Array (fold-SigType X by element))
 of_array {X} by element = ap (fold-SigType X by) (sym (rolls-Array element)) ∙ fold-roll-SigType X by (layers.Array element)
 
 pub of_other : {X : Type 0} (by : SigType-F X → X) → fold-SigType X by Other ≡ by layers.Other
 of_other {X} by = ap (fold-SigType X by) (sym rolls-Other) ∙ fold-roll-SigType X by layers.Other
 
--- what rewrites each fold of a type, and each look at its form, to its layer
-pub ruleset folds = (of_void, of_int, of_str, of_object, of_class, of_array, of_other, outs-Void, outs-Int, outs-Str, outs-Object, outs-Class, outs-Array, outs-Other)
+-- what rewrites each look at the form of a type to its layer, and each fold of a type too
+pub ruleset looks = (outs-Void, outs-Int, outs-Str, outs-Object, outs-Class, outs-Array, outs-Other)
 
--- all readings of signatures: a fact that opens it computes with each of them
+pub ruleset folds = (of_void, of_int, of_str, of_object, of_class, of_array, of_other, looks)
+
+-- all readings of signatures, and looks at the forms of types: a fact that opens it computes with each of them
 unfoldable pub grammar : Type 0
-unfolding byte_at byte_where form_at form_of front_at generic_at method_at number_at numbers_at out-SigType shape_at token_at token_of type_behind denote.Hole.Carrier.out
+unfolding byte_at byte_where form_at form_of front_at generic_at method_at number_at numbers_at shape_at token_at token_of type_behind out-SigType
+    denote.Hole.Carrier.out
 grammar = Unit {0}

@@ -67,7 +67,11 @@ area row table = 3 ∷ 0x30 ∷ 8 ∷ 0 ∷ 6 ∷ 0 ∷ 0 ∷ 0 ∷ row ∷ 0 �
 
 -- an image with these bodies in one section at the address 0x2040, which ends with the last of them
 abbrev image_of : List ℕ → pe.View
-image_of bodies = record { bytes = bodies; sections = record { address = 0x2040; size = length bodies; place = 0 } ∷ []; metadata = record { start = 0; len = 0 } }
+image_of bodies = record {
+  bytes = bodies;
+  sections = record { address = 0x2040; size = length bodies; place = 0 } ∷ [];
+  metadata = record { start = 0; len = 0 };
+}
 
 abbrev pub image_with : ℕ → ℕ → ℕ → pe.View
 image_with last row table = image_of (make ++ constructor ++ main ++ sum last ++ area row table)
