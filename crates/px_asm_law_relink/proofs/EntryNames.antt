@@ -6,6 +6,7 @@ use Rattle.std.proofs.lemmas.Option.{same_Some}
 use Rattle.px_link.proofs.LinkedProgram.{owner_defined}
 use Rattle.px_link.specs.Link.{maker_of, rows_of}
 use Rattle.px_link.specs.Names.{IsNamed, IsOnly}
+use Rattle.px_link.proofs.OneName.{one_name}
 use Rattle.px_meta.specs.Chains.{Ends, GoesOn, IsChain, outer_of}
 use Rattle.px_meta.specs.FullNames.{IsTypeName, type_name}
 use Rattle.px_meta.specs.Members.{owner_of}
@@ -20,21 +21,6 @@ use Rattle.px_asm_law_relink.specs.Linked.{entry_name, name_in}
 use Rattle.px_asm_law_relink.proofs.MethodStands.{owner_name_again}
 use Rattle.px_asm_law_relink.proofs.ReachedMaps.{place_at}
 use Rattle.px_asm_law_relink.proofs.Standing.{HasMethodFor, IsReachedRow, all_stand, method_stands}
-
--- ONE NAME
-
-one_chain : (next : ℕ → Option ℕ) (row : ℕ) (xs ys : List ℕ) → IsChain next row xs → IsChain next row ys → xs ≡ ys
-one_chain next row [] [] _ _ = refl
-one_chain next row [] (y ∷ ys) (Ends _ none) (GoesOn _ _ _ on chain) = absurd (cc)
-one_chain next row (x ∷ xs) [] (GoesOn _ _ _ on chain) (Ends _ none) = absurd (cc)
-one_chain next row (x ∷ xs) (y ∷ ys) (GoesOn _ _ _ on chain) (GoesOn _ _ _ other_on other) =
-    let same : x ≡ y = same_Some x y (sym on ∙ other_on) in
-    let rest : xs ≡ ys = one_chain next x xs ys chain (subst (λ n. IsChain next n ys) (sym same) other) in
-    cc
-
--- a type has one name
-pub one_name : (v : View) (row : ℕ) (one other : List ℕ) → IsTypeName v row one → IsTypeName v row other → one ≡ other
-one_name v row one other is also = is.is ∙ ap (type_name v row) (one_chain (outer_of v) row is.outers also.outers is.chain also.chain) ∙ sym also.is
 
 -- THE NAMES OF A METHOD
 

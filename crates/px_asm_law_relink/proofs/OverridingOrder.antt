@@ -6,6 +6,7 @@ use Rattle.std.specs.declared.cmp.Ordering.{Ordering}
 use Rattle.std.specs.declared.cmp.Ordering.TheVariants.{Less, Equal, Greater}
 use Rattle.std.proofs.lemmas.Option.{same_Some}
 use Rattle.px_link.proofs.LinkedProgram.{owner_defined}
+use Rattle.px_link.proofs.OneName.{one_name}
 use Rattle.px_meta.specs.Chains.{Ends, GoesOn, IsChain}
 use Rattle.px_meta.specs.FullNames.{IsTypeName, type_name}
 use Rattle.px_meta.specs.Members.{owner_of}
@@ -16,20 +17,6 @@ use Rattle.px_tables.specs.Metadata.{View}
 use Rattle.px_asm_law_relink.specs.Again.{Again, method_for, type_for}
 use Rattle.px_asm_law_relink.proofs.Standing.{IsReachedRow, method_stands, methods_rise}
 use Rattle.px_asm_law_relink.proofs.TypesAgain.{type_stands}
-
--- a row has one chain
-one_chain : (next : ℕ → Option ℕ) (row : ℕ) (behind others : List ℕ) → IsChain next row behind → IsChain next row others → behind ≡ others
-one_chain next row [] [] chain other = refl
-one_chain next row [] (o ∷ others) (Ends _ none) (GoesOn _ _ _ on rest) = absurd (cc)
-one_chain next row (b ∷ behind) [] (GoesOn _ _ _ on rest) (Ends _ none) = absurd (cc)
-one_chain next row (b ∷ behind) (o ∷ others) (GoesOn _ _ _ on rest) (GoesOn _ _ _ other_on other_rest) =
-    let same : o ≡ b = cc in
-    let later = one_chain next b behind others rest (subst (λ r. IsChain next r others) same other_rest) in
-    cc
-
--- and one name
-one_name : (v : View) (row : ℕ) (name other : List ℕ) → IsTypeName v row name → IsTypeName v row other → name ≡ other
-one_name v row name other is other_is = is.is ∙ ap (type_name v row) (one_chain _ row is.outers other_is.outers is.chain other_is.chain) ∙ sym other_is.is
 
 module _ (a : Again) where
   -- the owner of a method has the name that it had

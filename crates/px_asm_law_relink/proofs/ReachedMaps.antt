@@ -13,6 +13,7 @@ use Rattle.px_link_reach.specs.Finding.{AreIn}
 use Rattle.px_link_reach.specs.Met.{add_new, each_once}
 use Rattle.px_asm_law_relink.specs.Again.{Again, method_for, methods_for}
 use Rattle.px_asm_law_relink.proofs.Standing.{IsReachedRow, methods_apart}
+use Rattle.px_link.proofs.OneLists.{place_alone}
 
 -- WITHOUT REPEATS
 
@@ -59,14 +60,6 @@ zip_map R f (x ∷ xs) (z ∷ zs) are = (are.0, zip_map R f xs zs are.1)
 
 -- PLACES
 
-one_place : (rows : List ℕ) (i j row : ℕ) → AllPairs ◌≢◌ rows → slice_get rows i ≡ Some row → slice_get rows j ≡ Some row → i < j → ⊥
-one_place rows i j row apart at again before =
-    apart i j 0 before (slice_get_within rows j row again) (get_or_from_slice_get rows i row 0 at ∙ sym (get_or_from_slice_get rows j row 0 again))
-
 -- a row without another of its kind stands at its own place
 pub place_at : (rows : List ℕ) (k row : ℕ) → AllPairs ◌≢◌ rows → slice_get rows k ≡ Some row → place_of rows row ≡ k
-place_at rows k row apart at =
-    let other = at_place_of rows row (in_at rows k row at) in
-    ⊎_elim (λ same. same)
-    (λ differs. ⊎_elim (λ before. absurd (one_place rows (place_of rows row) k row apart other at before)) (λ behind. absurd (one_place rows k (place_of rows row) row apart at other behind)) differs)
-    (cases_order (place_of rows row) k)
+place_at rows k row apart at = place_alone rows (place_of rows row) k row apart (at_place_of rows row (in_at rows k row at)) at

@@ -9,6 +9,7 @@ use Rattle.px_link.proofs.LinkedProgram.{owner_numbered}
 use Rattle.px_link.proofs.LinkedTypes.{defined_type}
 use Rattle.px_link_methods.proofs.RowPlaces.{found_passes, in_at, places_rise}
 use Rattle.px_link.specs.Layout.{row_of_key, type_row}
+use Rattle.px_link.proofs.OneName.{one_name}
 use Rattle.px_meta.proofs.Alike.{owner_row}
 use Rattle.px_meta.specs.Faults.{IsFaultless, Lists}
 use Rattle.px_meta.specs.Members.{is_listed, list_end, list_start, owner_of}
@@ -27,7 +28,7 @@ use Rattle.px_link_types.specs.Numbers.{number_of}
 use Rattle.px_link_types.specs.declared.key.Leaf.TheVariants.{Defined}
 use Rattle.px_asm_law_relink.proofs.TypeOwned.{reached_owned}
 use Rattle.px_asm_law_relink.proofs.WritingMethods.{count_is, each_at_place, has_row, some_value}
-use Rattle.px_asm_law_relink.proofs.WritingTexts.{method_text, one_name}
+use Rattle.px_asm_law_relink.proofs.WritingTexts.{method_text}
 use Rattle.px_asm_law_relink.proofs.WritingTypes.{HasNumber, have_all, type_placed}
 use Rattle.px_asm_law_relink.specs.Linked.{IsLinked}
 use Rattle.px_asm_described.specs.Writable.{HasOwner, owner_in, owner_place}

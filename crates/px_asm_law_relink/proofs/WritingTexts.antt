@@ -81,20 +81,6 @@ chain_text v row (outer ∷ outers) faultless is (GoesOn _ _ _ next chain) =
 pub type_text : (v : View) (row : ℕ) (name : List ℕ) → IsFaultless v → IsRow v type_defs row → IsTypeName v row name → IsText name
 type_text v row name faultless is named = subst IsText (sym named.is) (chain_text v row named.outers faultless is named.chain)
 
--- A TYPE HAS ONE NAME
-
-one_chain : (next : ℕ → Option ℕ) (row : ℕ) (one two : List ℕ) → IsChain next row one → IsChain next row two → one ≡ two
-one_chain next row [] [] first second = refl
-one_chain next row [] (b ∷ ys) (Ends _ none) (GoesOn _ _ _ some rest) = absurd (cc)
-one_chain next row (a ∷ xs) [] (GoesOn _ _ _ some rest) (Ends _ none) = absurd (cc)
-one_chain next row (a ∷ xs) (b ∷ ys) (GoesOn _ _ _ one rest) (GoesOn _ _ _ two later) =
-    let same : a ≡ b = same_Some a b (sym one ∙ two) in
-    let behind : xs ≡ ys = one_chain next a xs ys rest (subst (λ r. IsChain next r ys) (sym same) later) in
-    cc
-
-pub one_name : (v : View) (row : ℕ) (name other : List ℕ) → IsTypeName v row name → IsTypeName v row other → name ≡ other
-one_name v row name other first second = first.is ∙ ap (type_name v row) (one_chain (outer_of v) row first.outers second.outers first.chain second.chain) ∙ sym second.is
-
 -- NAMES OF METHODS
 
 pub method_text : (v : View) (row : ℕ) → IsFaultless v → IsRow v methods row → IsText (text_at v (cell v methods row 3))

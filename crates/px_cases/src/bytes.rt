@@ -22,19 +22,36 @@ fn byte_of(digits: &[u8]) -> Option<u8> {
     }
 }
 
-/// The bytes that are written in base 16, two digits each, with or without spaces between them.
+// Adds the bytes of digits.
+fn add_digits(bytes: &mut Vec<u8>, digits: &str) -> anyhow::Result<()> {
+    for pair in digits.as_bytes().chunks(2) {
+        let Some(byte) = byte_of(pair) else {
+            bail!("{digits} is no list of bytes");
+        };
+        bytes.push(byte)?;
+    }
+    Ok(())
+}
+
+// Adds the bytes of a word: digits, or `DIGITS*N` for so many times the same.
+fn add_word(bytes: &mut Vec<u8>, word: &str) -> anyhow::Result<()> {
+    let Some((digits, times)) = word.split_once('*') else {
+        return add_digits(bytes, word);
+    };
+    for _ in 0..number_of(times)? {
+        add_digits(bytes, digits)?;
+    }
+    Ok(())
+}
+
+/// The bytes that are written in base 16, two digits each, with or without spaces between them. `1D08*3` stands for `1D08` three times.
 ///
 /// # Errors
 /// Digits that are no byte, and want of memory.
 pub fn bytes_of(alloc: Global, text: &str) -> anyhow::Result<Vec<u8>> {
     let mut bytes = Vec::new(alloc);
     for word in text.split_whitespace() {
-        for digits in word.as_bytes().chunks(2) {
-            let Some(byte) = byte_of(digits) else {
-                bail!("{word} is no list of bytes");
-            };
-            bytes.push(byte)?;
-        }
+        add_word(&mut bytes, word)?;
     }
     Ok(bytes)
 }
@@ -46,7 +63,7 @@ fn number_of(text: &str) -> anyhow::Result<usize> {
 // Puts the bytes at a place, over those that are there.
 fn put_at(bytes: &mut [u8], place: usize, new: &[u8]) -> anyhow::Result<()> {
     let Some(rest) = bytes.get_mut(place..) else {
-        bail!("{place} is behind the end");
+        bail!("{place} is past the end");
     };
     if rest.len() < new.len() {
         bail!("bytes at {place} pass the end");

@@ -176,7 +176,7 @@ pub record Wrote (words : List (List ℕ)) (seen : Fetching) (status : Status) (
   pub says : Says words seen status text
   pub written : new ≡ extended old text
 
--- a proper front of a text that some status says was written
+-- a proper prefix of a text that some status says was written
 pub record WroteFront (words : List (List ℕ)) (seen : Fetching) (old new : Option (List ℕ)) : Type 0 where
   pub text : List ℕ
   pub says : SaysSome words seen text

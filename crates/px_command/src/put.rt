@@ -56,7 +56,7 @@ fn put_answer<O: Sink>(out: &mut O, input: &Input, answer: &Answer) -> Result<()
     }
 }
 
-/// Writes the text of a reply; it takes no memory. `Stopped` comes only where a write failed, behind a proper front of the text.
+/// Writes the text of a reply; it takes no memory. `Stopped` comes only where a write failed, after a proper prefix of the text.
 pub fn put_reply<O: Sink>(out: &mut O, reply: &Reply) -> Result<(), Stopped>
     requires { IsSayable reply.now }
     ensures { Puts O.written O.faults out.old (reply_text reply.now) out.new result }

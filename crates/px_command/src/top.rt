@@ -158,7 +158,7 @@ pub fn pex_one<S: Shelf, O: Sink>(
     // Each status but a failed write comes by its cause, and what was written is its text.
     ensures says { result ≢ Status.WriteFault → Wrote words.now (fetching (S.files shelf.old) (S.misses shelf.old) (S.misses shelf.new) (S.faults shelf.old) (S.faults shelf.new)) result (O.written out.old) (O.written out.new) }
 
-    // A failed write is one of the sink's, and left a proper front of a text that another status writes.
+    // A failed write is one of the sink's, and left a proper prefix of a text that another status writes.
     ensures stopped { result ≡ Status.WriteFault → WroteFront words.now (fetching (S.files shelf.old) (S.misses shelf.old) (S.misses shelf.new) (S.faults shelf.old) (S.faults shelf.new)) (O.written out.old) (O.written out.new) }
     ensures write_fault { result ≡ Status.WriteFault → Rose (O.faults out.old) (O.faults out.new) }
 

@@ -1,5 +1,5 @@
 // What the bytes of an assembly give, with a method by its name.
-ghost use Rattle.std.specs.Prelude.{◌≡◌, ◌<◌, ◌≤◌, ◌^◌, ℕ, List, Ok, true, length};
+ghost use Rattle.std.specs.Prelude.{◌≡◌, ◌≢◌, ◌<◌, ◌≤◌, ◌^◌, ℕ, List, Ok, true, length};
 ghost use Rattle.px_code.specs.declared.body.BodyFault.TheVariants as body_faults;
 ghost use Rattle.px_program.specs.Formed.{IsWellFormed};
 ghost use Rattle.px_link.specs.Link.{Blames, Reads, arguments_of};
@@ -20,16 +20,18 @@ use std::alloc::Global;
 
 // The answer to the fault of a method's body.
 fn bad_body(fault: BodyFault, method: u32) -> Answer
+    requires { fault ≢ BodyFault.Memory }
     ensures { (v : View) (image : pe.View) (name : List ℕ) (text : List ℕ) → Blames v image name (LinkFault.BadBody fault method) → ExplainsNamed v image name text result }
 {
     match fault {
-        BodyFault::Memory => Answer::Memory,
+        BodyFault::Memory => unreachable!(),
         BodyFault::Bad { kind, at } => Answer::Refused(Refusal::Body(kind, at, method)),
     }
 }
 
 // The answer to a method that isn't linked.
 fn unlinked(fault: LinkFault) -> Answer
+    requires { (method : ℕ) → fault ≢ LinkFault.BadBody BodyFault.Memory method }
     ensures { (v : View) (image : pe.View) (name : List ℕ) (text : List ℕ) → Blames v image name fault → ExplainsNamed v image name text result }
 {
     match fault {
@@ -40,7 +42,6 @@ fn unlinked(fault: LinkFault) -> Answer
         LinkFault::BadParameter(number) => Answer::Refused(Refusal::BadParameter(number)),
         LinkFault::NoMaker => Answer::Refused(Refusal::NoMaker),
         LinkFault::BadBody { fault, method } => bad_body(fault, method),
-        LinkFault::RawLocals => Answer::Refused(Refusal::RawLocals),
     }
 }
 

@@ -9,7 +9,7 @@ ghost use Rattle.px_command_answers.specs.Answers.{ExplainsRaw, no_arrays};
 
 use crate::answer::{Answer, Refusal, told};
 use px_code::{Body, BodyFault, read_body};
-use px_link::{LinkFault, link_raw};
+use px_link::{RawFault, link_raw};
 use px_program::{Place, Program};
 use std::alloc::{AllocError, Global};
 
@@ -21,7 +21,7 @@ fn no_arrays(alloc: Global, places: &[Place]) -> Result<Vec<bool>, AllocError>
 }
 
 // The program of a body none of whose parameters is an array.
-fn program_of(alloc: Global, body: &Body, places: &[Place]) -> Result<Program, LinkFault>
+fn program_of(alloc: Global, body: &Body, places: &[Place]) -> Result<Program, RawFault>
     requires formed { IsFormed body.now }
     requires few { length places.now ≤ 16 }
     requires integers { AllByRecursion IsInteger places.now }
@@ -35,18 +35,12 @@ fn program_of(alloc: Global, body: &Body, places: &[Place]) -> Result<Program, L
 }
 
 // The answer to a body that isn't linked.
-fn unlinked(fault: LinkFault) -> Answer
+fn unlinked(fault: RawFault) -> Answer
     ensures { (bytes : List ℕ) (places : List Place) (text : List ℕ) (body : Body) → body_of bytes ≡ Ok body → BlamesRaw body fault → ExplainsRaw bytes places text result }
 {
     match fault {
-        LinkFault::RawLocals => Answer::Refused(Refusal::RawLocals),
-        LinkFault::Memory
-        | LinkFault::NoMethod
-        | LinkFault::Ambiguous
-        | LinkFault::NoBody
-        | LinkFault::BadParameter(_)
-        | LinkFault::NoMaker
-        | LinkFault::BadBody { .. } => Answer::Memory,
+        RawFault::Memory => Answer::Memory,
+        RawFault::RawLocals => Answer::Refused(Refusal::RawLocals),
     }
 }
 

@@ -44,7 +44,7 @@ is_method word = is_file word && ((pairs_in word == 1) && (not (starts_with nat_
 abbrev pub is_command : List ℕ → Bool
 is_command word = bytes_eq word (codes "explore-raw") || bytes_eq word (codes "explore")
 
--- what stands behind FILE: METHOD for `explore`, else PARAMS
+-- what stands after FILE: METHOD for `explore`, else PARAMS
 abbrev pub is_target : List ℕ → List ℕ → Bool
 is_target command word = if bytes_eq command (codes "explore") then is_method word else is_some (places_by word)
 
@@ -57,7 +57,7 @@ fits command (suc (suc (suc zero))) word = bytes_eq word (codes "--domain")
 fits command (suc (suc (suc (suc zero)))) word = is_filled word
 fits command (suc (suc (suc (suc (suc n))))) word = false
 
--- the first word that fits nothing, or the place behind the last where one is missing
+-- the first word that fits nothing, or the place after the last where one is missing
 abbrev pub misfit_from : List ℕ → ℕ → List (List ℕ) → Option ℕ
 misfit_from command k [] = if k == 5 then None else Some k
 misfit_from command k (word ∷ words) = if fits command k word then misfit_from command (k + 1) words else Some k

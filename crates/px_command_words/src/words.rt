@@ -128,7 +128,7 @@ fn command_in(words: &[Word]) -> &str
     }
 }
 
-// The first word that fits nothing, or the place behind the last where one is missing.
+// The first word that fits nothing, or the place after the last where one is missing.
 fn misfit(words: &[Word]) -> Option<usize>
     ensures { result ≡ misfit words.now }
 {

@@ -6,7 +6,7 @@ use Rattle.px_code.specs.Reading.{PlacedFault}
 use Rattle.px_code.specs.declared.body.Body.{Body}
 use Rattle.px_link.specs.Link.{BlamesRaw}
 use Rattle.px_link.specs.Raw.{ReadsRaw}
-use Rattle.px_link.specs.declared.fault.LinkFault.TheVariants.{RawLocals}
+use Rattle.px_link.specs.declared.fault.RawFault.TheVariants.{RawLocals}
 use Rattle.px_program.specs.Alone.{array_of, no_layout}
 use Rattle.px_program.specs.Library.{library_types}
 use Rattle.px_program.specs.declared.instr.Code.{Code}

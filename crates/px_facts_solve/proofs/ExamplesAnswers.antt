@@ -33,7 +33,8 @@ refutation_within_the_budget = ((refl, refl), omega arith)
 no_chains_refute_nothing : Settles contradiction 0 (Refutation []) → ⊥
 no_chains_refute_nothing settles = settles.0
 
--- A spent budget has as many conflicts as it allows: none where it is 0, and no genuine log is longer or shorter.
+-- A spent budget has as many conflicts as it allows: none where it is 0, and no log is shorter. A body that counts conflicts from 1 gives Spent []
+-- where the budget is 1.
 no_budget : Settles contradiction 0 (Spent [])
 no_budget = (tt, refl)
 

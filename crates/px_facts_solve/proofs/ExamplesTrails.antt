@@ -1,6 +1,7 @@
 -- Trails: values, levels and reasons, and what stays of a trail. Literals are numbered as in clauses: 9 is variable 4 negated.
 use Rattle.std.proofs.Common.{◌≡◌, ℕ, true, false, List, [], ◌∷◌, ◌++◌, Some, None, Option, refl}
 use Rattle.px_chain.specs.Clause.{clause_of}
+use Rattle.px_trail.specs.Assignment.{truth_of}
 use Rattle.px_trail.specs.Trail.{Step, decisions_of, level_of, literals_of, reason_of, up_to, value_of}
 
 abbrev decided : ℕ → Step
@@ -59,6 +60,23 @@ value_past_all_variables = refl
 
 value_of_largest_variable : value_of two_decisions 4294967295 ≡ None
 value_of_largest_variable = refl
+
+-- The truth of a literal: whether it was assigned, where its variable was. A body that tells that of the complement says Some false of 0 and 9, and
+-- Some true of 1 and 8; then a clause whose literals are all false is taken for one with a true literal.
+truth_of_decided : truth_of two_decisions 0 ≡ Some true
+truth_of_decided = refl
+
+truth_of_its_complement : truth_of two_decisions 1 ≡ Some false
+truth_of_its_complement = refl
+
+truth_of_negated : truth_of two_decisions 9 ≡ Some true
+truth_of_negated = refl
+
+truth_of_the_negated_variable : truth_of two_decisions 8 ≡ Some false
+truth_of_the_negated_variable = refl
+
+truth_of_unassigned : truth_of two_decisions 12 ≡ None
+truth_of_unassigned = refl
 
 -- Levels: how many decisions stood, a decision counting itself. A body that doesn't count it says 0 of variable 0 and of all others.
 level_of_decided : level_of two_decisions 0 ≡ Some 1

@@ -16,7 +16,7 @@ struct Ran {
 }
 
 impl Ran {
-    // Whether a write failed, behind a proper front of this text.
+    // Whether a write failed, after a proper prefix of this text.
     fn has_stopped(&self, whole: &[u8]) -> bool {
         let written = self.out.bytes();
         self.status == Status::WriteFault

@@ -3,7 +3,7 @@
 use px_cases::Case;
 use px_program_text::Out;
 
-/// Bytes, at most 32 in a line behind a word.
+/// Bytes, at most 32 in a line after a word.
 pub fn put_bytes(out: &mut Out, word: &str, bytes: &[u8]) {
     for line in bytes.chunks(32) {
         out.text(word);

@@ -101,8 +101,8 @@ fn put_bad_parameter(out: &mut Out, number: u32) {
     out.text("\n");
 }
 
-/// The line of a method that isn't linked.
-pub fn put_link_fault(out: &mut Out, fault: &LinkFault) {
+// The line of a method that isn't linked.
+fn put_link_fault(out: &mut Out, fault: &LinkFault) {
     match fault {
         LinkFault::Memory => out.text("fault Memory\n"),
         LinkFault::NoMethod => out.text("fault NoMethod\n"),
@@ -111,7 +111,6 @@ pub fn put_link_fault(out: &mut Out, fault: &LinkFault) {
         LinkFault::BadParameter(number) => put_bad_parameter(out, *number),
         LinkFault::NoMaker => out.text("fault NoMaker\n"),
         LinkFault::BadBody { fault, method } => put_body_fault(out, *fault, *method),
-        LinkFault::RawLocals => out.text("fault RawLocals\n"),
     }
 }
 

@@ -4,10 +4,10 @@ ghost use Rattle.std.specs.List.{AllByRecursion};
 ghost use Rattle.px_code.specs.Body.{IsFormed};
 ghost use Rattle.px_program.specs.Formed.{IsInteger};
 
-use crate::linking::put_link_fault;
+use crate::linking::put_body_fault;
 use anyhow::bail;
-use px_code::{Body, read_body};
-use px_link::{LinkFault, link_raw};
+use px_code::{Body, BodyFault, read_body};
+use px_link::{RawFault, link_raw};
 use px_program::{Place, Program};
 use px_program_text::{Out, integer_word, put_program};
 use std::alloc::Global;
@@ -32,6 +32,14 @@ static INTEGERS: [Place; 12] = [
 struct Params {
     places: Vec<Place>,
     arrays: Vec<bool>,
+}
+
+// Why the bytes of a raw body give no program: there are too many parameters, the body isn't read, or it isn't linked.
+#[derive(Drop)]
+enum NoProgram {
+    TooMany,
+    Unread(BodyFault),
+    Unlinked(RawFault),
 }
 
 fn integer_named(word: &str) -> Option<Place> {
@@ -71,24 +79,41 @@ fn are_integers(places: &[Place]) -> bool
 }
 
 // The program of a body.
-fn program_of(alloc: Global, body: &Body, params: &Params) -> Result<Program, LinkFault>
+fn program_of(alloc: Global, body: &Body, params: &Params) -> Result<Program, NoProgram>
     requires { IsFormed body.now }
 {
     let places = params.places.as_slice();
     let arrays = params.arrays.as_slice();
     if places.len() > 16 || arrays.len() != places.len() || !are_integers(places) {
-        return Err(LinkFault::NoMethod);
+        return Err(NoProgram::TooMany);
     }
-    link_raw(alloc, body, places, arrays)
+    link_raw(alloc, body, places, arrays).map_err(NoProgram::Unlinked)
 }
 
 // The program of the bytes of a body.
-fn linked(alloc: Global, bytes: &[u8], params: &Params) -> Result<Program, LinkFault>
+fn linked(alloc: Global, bytes: &[u8], params: &Params) -> Result<Program, NoProgram>
     requires { length bytes.now < 2 ^ 31 }
 {
     match read_body(alloc, bytes) {
         Ok(body) => program_of(alloc, &body, params),
-        Err(fault) => Err(LinkFault::BadBody { fault, method: 0 }),
+        Err(fault) => Err(NoProgram::Unread(fault)),
+    }
+}
+
+// The line of a body that isn't linked.
+fn put_raw_fault(out: &mut Out, fault: RawFault) {
+    match fault {
+        RawFault::Memory => out.text("fault Memory\n"),
+        RawFault::RawLocals => out.text("fault RawLocals\n"),
+    }
+}
+
+// The line of what gives no program.
+fn put_fault(out: &mut Out, fault: &NoProgram) {
+    match fault {
+        NoProgram::TooMany => out.text("more than 16 parameters\n"),
+        NoProgram::Unread(fault) => put_body_fault(out, *fault, 0),
+        NoProgram::Unlinked(fault) => put_raw_fault(out, *fault),
     }
 }
 
@@ -105,7 +130,7 @@ pub fn put_raw(
     let params = params_of(alloc, words)?;
     match linked(alloc, bytes, &params) {
         Ok(program) => put_program(out, &program, all),
-        Err(fault) => put_link_fault(out, &fault),
+        Err(fault) => put_fault(out, &fault),
     }
     Ok(())
 }

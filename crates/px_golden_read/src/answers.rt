@@ -59,7 +59,7 @@ fn put_line(rt: &HostRuntime, text: &mut String, case: &Case, line: &str) -> any
     )?)
 }
 
-/// Writes what the case comes to: a line for each one behind the two that say of which file what is read.
+/// Writes what the case comes to: a line for each one after the two that say of which file what is read.
 ///
 /// # Errors
 /// A file that can't be read or changed, and want of memory.

@@ -2,7 +2,7 @@
 //!
 //! A case has a line that says what it shows, a line `file` with the bytes of a file, a line `read` with what they are read as (`image`, `tables`,
 //! `metadata`, `body`, or the signature of a `method`, of a `field`, of `locals` or of a `type`), and then lines that ask: for copies of the file,
-//! as `copy the mark stands at the end: 60=3C03`, and by questions, as `at 8192 128`. Behind `expect` each of these stands with its answer.
+//! as `copy the mark stands at the end: 60=3C03`, and by questions, as `at 8192 128`. After `expect` each of these stands with its answer.
 #![tactic(auto)]
 
 mod answers;

@@ -58,7 +58,7 @@ fn put_piece(text: &mut String, piece: Piece) -> Result<(), AllocError> {
     }
 }
 
-/// Writes pieces one behind the other.
+/// Writes pieces one after the other.
 pub fn put_pieces(text: &mut String, pieces: &[Piece]) -> Result<(), AllocError> {
     for piece in pieces {
         put_piece(text, *piece)?;

@@ -1,6 +1,6 @@
 // Questions about what is read.
 
-/// A question: its word, and the numbers behind it. What is no number counts as 0.
+/// A question: its word, and the numbers after it. What is no number counts as 0.
 #[derive(Clone, Copy)]
 pub struct Question<'a> {
     pub word: &'a str,
@@ -19,7 +19,7 @@ fn hex(digits: &str) -> u32 {
     number
 }
 
-// A number of base 10, or behind `0x` of base 16.
+// A number of base 10, or after `0x` of base 16.
 fn number(word: &str) -> u32 {
     match word.strip_prefix("0x") {
         Some(digits) => hex(digits),
@@ -28,7 +28,7 @@ fn number(word: &str) -> u32 {
 }
 
 impl<'a> Question<'a> {
-    /// The question that a line asks: a word and up to two numbers, of base 10 or behind `0x` of base 16.
+    /// The question that a line asks: a word and up to two numbers, of base 10 or after `0x` of base 16.
     pub fn of(line: &'a str) -> Question<'a> {
         let (word, rest) = line.split_once(' ').unwrap_or((line, ""));
         let (first, second) = rest.split_once(' ').unwrap_or((rest, ""));

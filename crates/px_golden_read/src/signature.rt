@@ -1,4 +1,4 @@
-// Types and signatures: an array is written as the type of its elements and `[]`.
+// Types and signatures: an array is written as the type of its elements and `[]`, arrays in arrays as that of the innermost and how many they are.
 ghost use Rattle.std.specs.Prelude.{◌<◌, ◌^◌, length};
 
 use crate::pieces::Piece::{Number, Text, Token};
@@ -26,20 +26,38 @@ fn integer_name(integer: Integer) -> &'static str {
     }
 }
 
-/// Writes a type.
-pub fn put_type(of: &SigType, text: &mut String) -> Result<(), AllocError> {
+// Writes a type that is no array.
+fn put_leaf(of: &SigType, text: &mut String) -> Result<(), AllocError> {
     match of {
         SigType::Void => text.push_str("void"),
         SigType::Int(integer) => text.push_str(integer_name(*integer)),
         SigType::Str => text.push_str("string"),
         SigType::Object => text.push_str("object"),
         SigType::Class(token) => put_pieces(text, &[Text("class "), Token(*token)]),
-        SigType::Other => text.push_str("other"),
-        SigType::Array(element) => {
-            put_type(element.get(), text)?;
-            text.push_str("[]")
-        }
+        SigType::Other | SigType::Array(_) => text.push_str("other"),
     }
+}
+
+// Writes so many pairs of brackets; many as how many they are.
+fn put_brackets(text: &mut String, depth: u32) -> Result<(), AllocError> {
+    match depth {
+        0 => Ok(()),
+        1 => text.push_str("[]"),
+        2 => text.push_str("[][]"),
+        _ => put_pieces(text, &[Text("[] "), Number(depth), Text(" times")]),
+    }
+}
+
+/// Writes a type.
+pub fn put_type(of: &SigType, text: &mut String) -> Result<(), AllocError> {
+    let mut leaf = of;
+    let mut depth = 0u32;
+    while let SigType::Array(element) = leaf {
+        leaf = element.get();
+        depth = depth.saturating_add(1);
+    }
+    put_leaf(leaf, text)?;
+    put_brackets(text, depth)
 }
 
 // Writes types in brackets.

@@ -6,6 +6,7 @@ mod gates;
 mod literals;
 mod logs;
 mod script;
+mod sums;
 mod trails;
 mod transcript;
 

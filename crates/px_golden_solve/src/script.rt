@@ -6,6 +6,7 @@ use crate::formulas::{formula_of, put_formula, put_solved};
 use crate::gates::put_gates;
 use crate::literals::{literal_of, number_of};
 use crate::logs::{entry_of, put_checked};
+use crate::sums::put_sum;
 use crate::trails::{decide, go_back, learn, propagate, put_known};
 use crate::transcript::Transcript;
 use px_chain::{Cnf, Log};
@@ -24,6 +25,7 @@ fn tell(told: &mut Transcript, cnf: &Cnf, log: &mut Log, key: &str, rest: &str) 
         "check" => put_checked(told, cnf, log),
         "show" => put_formula(told, cnf),
         "gates" => put_gates(told),
+        "sum" => put_sum(told, rest),
         _ => {}
     }
 }
@@ -69,6 +71,7 @@ fn run_over(told: &mut Transcript, cnf: &Cnf, given: &str) {
 ///
 /// - `p cnf`, and clauses, as the DIMACS format has them
 /// - `show`: writes the formula; `gates`: writes one of each kind of gate
+/// - `sum`, a width in bits, two numbers and a carry: writes the number that their sum spells
 /// - `solve` and a budget: writes what the answer is; `within` and a budget: writes that it is right, whichever it is
 /// - `conflict`, decisions, `then`, the last one, `by` and a chain: an entry of the log; `check`: writes what the log is
 /// - `decide` and a literal; `propagate`; `back`, and how many decisions are kept; `learn` and a clause; `known` and a variable

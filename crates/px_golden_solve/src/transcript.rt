@@ -57,6 +57,13 @@ impl Transcript {
         self.put("\n");
     }
 
+    /// Writes a line of a word and a number of up to 128 bits.
+    pub fn total(&mut self, word: &str, number: u128) {
+        self.put(word);
+        let written = write!(self.text, " {number}\n").is_ok();
+        self.note(written);
+    }
+
     /// Writes a line of a word and of literals.
     pub fn literals(&mut self, word: &str, literals: &[Lit]) {
         self.put(word);

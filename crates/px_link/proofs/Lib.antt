@@ -16,6 +16,15 @@ pub mod LinkedTypes
 pub mod Linking
 pub mod Making
 pub mod Naming
+pub mod OneKeys
+pub mod OneLayout
+pub mod OneLists
+pub mod OneMethods
+pub mod OneName
+pub mod OneOverriders
+pub mod OneProgram
+pub mod OneReached
+pub mod OneTypes
 pub mod Overriding
 pub mod Placing
 pub mod Reached

@@ -29,6 +29,8 @@ use Rattle.px_link_types.specs.Numbers.{Numbers, library_keys}
 use Rattle.px_link_types.specs.declared.key.Key.{Key}
 use Rattle.px_link.specs.declared.fault.LinkFault.{LinkFault}
 use Rattle.px_link.specs.declared.fault.LinkFault.TheVariants as faults
+use Rattle.px_link.specs.declared.fault.RawFault.{RawFault}
+use Rattle.px_link.specs.declared.fault.RawFault.TheVariants as raw_faults
 use Rattle.px_link.specs.Layout.{IsLayout}
 use Rattle.px_link.specs.Names.{IsNamed, IsOnly}
 use Rattle.px_link.specs.Overrides.{AreLinkedTypes}
@@ -204,10 +206,8 @@ Blames v image name faults.NoBody = HasNoBody v name
 Blames v image name (faults.BadParameter number) = HasBadParameter v name number
 Blames v image name faults.NoMaker = HasNoMaker v name
 Blames v image name (faults.BadBody fault number) = BlamesBody v image name fault number
-Blames v image name faults.RawLocals = ⊥
 
 -- why a raw body isn't linked
-abbrev pub BlamesRaw : Body → LinkFault → Type 0
-BlamesRaw body faults.Memory = Unit {0}
-BlamesRaw body faults.RawLocals = body.locals_token ≢ 0
-BlamesRaw body _ = ⊥
+abbrev pub BlamesRaw : Body → RawFault → Type 0
+BlamesRaw body raw_faults.Memory = Unit {0}
+BlamesRaw body raw_faults.RawLocals = body.locals_token ≢ 0

@@ -20,7 +20,13 @@ pub enum LinkFault {
     NoMaker,
     /// The body of a method, by its number in the program, isn't read.
     BadBody { fault: BodyFault, method: u32 },
-    /// The body of a raw method names a signature of locals, which only an assembly has.
+}
+
+/// Why the program of a raw body isn't made.
+#[derive(Clone, Copy)]
+pub enum RawFault {
+    Memory,
+    /// The body names a signature of locals, which only an assembly has.
     RawLocals,
 }
 
@@ -41,5 +47,15 @@ impl<T: Drop> From<AllocFailed<T>> for LinkFault {
 
     fn from(_: AllocFailed<T>) -> Self {
         LinkFault::Memory
+    }
+}
+
+impl From<AllocError> for RawFault {
+    ghost use Rattle.px_link.specs.declared.fault.RawFault.TheVariants.{Memory};
+
+    ghost from_gives = { λ _ e. e ≡ Memory };
+
+    fn from(_: AllocError) -> Self {
+        RawFault::Memory
     }
 }

@@ -3,6 +3,7 @@
 
 mod entry;
 mod fault;
+mod law;
 mod layout;
 mod linked;
 mod maker;
@@ -11,6 +12,7 @@ mod overrides;
 mod params;
 mod raw;
 
-pub use fault::LinkFault;
+pub use fault::{LinkFault, RawFault};
+pub use law::{reads_one, reads_or_blames};
 pub use linked::link;
 pub use raw::link_raw;

@@ -8,7 +8,7 @@ ghost use Rattle.px_link.specs.Link.{BlamesRaw};
 ghost use Rattle.px_link.specs.Raw.{instr_of, method_of, program_of};
 ghost use Rattle.px_link_methods.specs.Methods.{clause_of};
 
-use crate::LinkFault;
+use crate::RawFault;
 use crate::params::{elements_of, params_of};
 use px_code::{Body, RawClause, RawInstr};
 use px_link_methods::clause_of;
@@ -92,7 +92,7 @@ pub fn link_raw(
     body: &Body,
     params: &[Place],
     elements: &[bool],
-) -> Result<Program, LinkFault>
+) -> Result<Program, RawFault>
     requires formed { IsFormed body.now }
     requires count { length params.now ≤ 16 }
     requires pairs { length elements.now ≡ length params.now }
@@ -103,7 +103,7 @@ pub fn link_raw(
     ensures fault { IfErr result (BlamesRaw body.now) }
 {
     if body.locals_token != 0 {
-        return Err(LinkFault::RawLocals);
+        return Err(RawFault::RawLocals);
     }
     let places = elements_of(alloc, params, elements)?;
     let params = params_of(alloc, &places, params, elements)?;

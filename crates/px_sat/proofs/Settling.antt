@@ -1,5 +1,5 @@
 -- What a search has learnt, and what its answers say.
-use Rattle.std.proofs.Common.{◌≡◌, ℕ, suc, ◌<◌, true, false, not, List, [], ◌∷◌, ◌++◌, length, Option, Some, None, refl, ap, sym, ◌∙◌, subst, ⊎_elim, arith}
+use Rattle.std.proofs.Common.{◌≡◌, ℕ, suc, ◌<◌, true, false, not, List, [], ◌∷◌, ◌++◌, length, Option, Some, None, refl, ap, ap₂, sym, ◌∙◌, subst, ⊎_elim, arith}
 use Rattle.std.specs.Prelude.{IsSome, unwrap_or}
 use Rattle.std.specs.List.{AllByRecursion, Contains}
 use Rattle.std.specs.Option.{option_map}
@@ -19,7 +19,7 @@ use Rattle.px_trail.specs.Trail.{IsQuiet, View, decisions_of, known_of, literals
 use Rattle.px_trail.proofs.Lookups.{known-has, same_variable}
 use Rattle.px_trail.proofs.Trails.{false-conflict}
 use Rattle.px_sat.specs.Descent.{IsWhole}
-use Rattle.px_sat.specs.Search.{chains_of}
+use Rattle.px_sat.specs.Search.{chains_of, formula_over}
 
 -- How far a search has come: what was learnt is genuine, the trail is over it, and nothing is decided.
 pub record HasLearnt (f : Formula) (log : List LogEntry) (v : View) : Type 0 where
@@ -121,3 +121,7 @@ pub refutes-by : (vars : ℕ) (clauses : List (List ℕ)) (log : List LogEntry) 
 refutes-by vars clauses log chain all here empty =
     Refutes-last clauses (chains_of log) chain
     (AllDerive-push clauses (chains_of log) chain (logs-derive vars clauses log all) (subst (λ cs. Derives cs chain) (sym (grown-chains clauses log)) here)) empty
+
+-- the formula that a trail is over, by its parts
+pub over-same : (f : Formula) (v : View) → v.vars ≡ f.vars → v.clauses ≡ f.clauses → formula_over v ≡ f
+over-same f v vars clauses = ap₂ (λ (n : ℕ) (cs : List (List ℕ)). let g : Formula = record { vars = n; clauses = cs } in g) vars clauses

@@ -2,6 +2,7 @@
 use Rattle.std.specs.Prelude.{◌≡◌, ℕ, ◌<◌, List, Bool, false, length, map, slice_index_or, unwrap_or}
 use Rattle.px_chain.specs.declared.chain.Chain.{Chain}
 use Rattle.px_chain.specs.declared.chain.LogEntry.{LogEntry}
+use Rattle.px_chain.specs.Clause.{Formula}
 use Rattle.px_trail.specs.Trail.{View, value_of}
 
 -- the values that the variables have, by variable
@@ -11,3 +12,7 @@ pub record AreValues (v : View) (values : List Bool) : Type 0 where
 
 abbrev pub chains_of : List LogEntry → List Chain
 chains_of log = map (λ (entry : LogEntry). entry.chain) log
+
+-- the formula that a trail is over
+abbrev pub formula_over : View → Formula
+formula_over v = record { vars = v.vars; clauses = v.clauses }

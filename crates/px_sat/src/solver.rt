@@ -1,9 +1,9 @@
 // The search.
 ghost use Rattle.std.specs.Prelude.{◌≡◌, ◌≤◌, ◌^◌, [], ◌∷◌, ◌++◌, IfOk, OnOk};
-ghost use Rattle.px_chain.specs.Clause.{IsOver, clause_of};
+ghost use Rattle.px_chain.specs.Clause.{IsFormula, IsOver, clause_of};
 ghost use Rattle.px_trail.specs.Trail.{decisions_of};
 ghost use Rattle.px_sat.specs.Answer.{IsSpent, Settles};
-ghost use Rattle.px_sat.specs.Search.{AreValues, chains_of};
+ghost use Rattle.px_sat.specs.Search.{AreValues, chains_of, formula_over};
 ghost use Rattle.px_sat.specs.Turn.{TurnsTo};
 
 use crate::answer::Answer;
@@ -27,15 +27,35 @@ pub fn solve(alloc: Global, cnf: &Cnf, budget: u32) -> Result<Answer, AllocError
     let mut trail = Trail::new(alloc, cnf)?;
     let mut order = Order::new(alloc, cnf.vars())?;
     let mut resolver = Resolver::new(alloc, cnf.vars())?;
+    search(alloc, budget, &mut trail, &mut order, &mut resolver)
+}
+
+// Searches from a trail on which nothing is assigned.
+fn search(
+    alloc: Global,
+    budget: u32,
+    trail: &mut Trail,
+    order: &mut Order,
+    resolver: &mut Resolver,
+) -> Result<Answer, AllocError>
+    requires formed { IsFormula (formula_over trail.old) }
+    requires unassigned { trail.old.steps ≡ [] }
+    requires order { order.old ≡ trail.old.vars }
+    requires vars { resolver.old.vars ≡ trail.old.vars }
+    requires empty { resolver.old.clause ≡ [] }
+    ensures settles { IfOk result (Settles (formula_over trail.old) budget) }
+    ensures at_once { IfOk result (λ answer. budget ≡ 0 → IsSpent answer) }
+    ensures enough { IfOk result (λ answer. 3 ^ trail.old.vars ≤ budget → IsSpent answer → ⊥) }
+{
     let mut log = Vec::new(alloc);
     for conflict in 0..budget {
-        match turn(alloc, &mut trail, &order, &mut resolver)? {
+        match turn(alloc, trail, order, resolver)? {
             Turn::Met(values) => return Ok(Answer::Found(values)),
             Turn::Refuted(chain) => {
                 return Ok(Answer::Refutation(refutation(alloc, log, chain)?));
             }
             Turn::Learnt(entry) => {
-                take_up(&mut trail, &mut order, &entry, conflict + 1)?;
+                take_up(trail, order, &entry, conflict + 1)?;
                 log.push(entry)?;
             }
         }

@@ -5,7 +5,7 @@ ghost use Rattle.px_domain.specs.Domain.{InDomain};
 ghost use Rattle.px_domain.specs.Text.{args_text, domain_text};
 ghost use Rattle.px_io.specs.Puts.{Puts};
 ghost use Rattle.px_tests.specs.Ends.{end_text};
-ghost use Rattle.px_tests.specs.Text.{bounds_text, counts_text, end_part, limits_text, path_part, test_text, tests_text, text_of};
+ghost use Rattle.px_tests.specs.Text.{bounds_text, counts_text, end_part, input_text, limits_text, path_part, test_text, tests_text, text_of};
 
 use crate::domains::{put_args, put_domain};
 use crate::ends::put_end;
@@ -89,61 +89,28 @@ fn put_tests<O: Sink>(
     Ok(())
 }
 
-#[tactic(auto, using(px_io::proofs::Putting::writing))]
-fn put_from_tests<O: Sink>(
+// Writes the report of a domain's parts and of records.
+fn put_report<O: Sink>(
     out: &mut O,
     program: &Program,
+    input: &Input,
     findings: &Findings,
+    parts: &[Part],
+    records: &[Record],
 ) -> Result<(), Stopped>
-    requires { AllByRecursion (λ r. InDomain findings.now.domain r.words) findings.now.records }
-    ensures { Puts O.written O.faults out.old (tests_text program.now findings.now.domain findings.now.records (length findings.now.records) ++ counts_text findings.now.records findings.now.refuted) out.new result }
+    requires { AllByRecursion (λ r. InDomain parts.now r.words) records.now }
+    ensures { Puts O.written O.faults out.old (input_text input.now ++ (domain_text parts.now ++ (bounds_text findings.now.bounds ++ (limits_text findings.now.limits ++ (tests_text program.now parts.now records.now (length records.now) ++ counts_text records.now findings.now.refuted))))) out.new result }
 {
-    let records = findings.records.as_slice();
-    put_tests(out, program, findings.domain.parts(), records)?;
+    put_input(out, input)?;
+    put_domain(out, parts)?;
+    put_bounds(out, findings.bounds)?;
+    put_limits(out, findings.limits)?;
+    put_tests(out, program, parts, records)?;
     put_counts(out, records, findings.refuted)
 }
 
-#[tactic(auto, using(px_io::proofs::Putting::writing))]
-fn put_from_limits<O: Sink>(
-    out: &mut O,
-    program: &Program,
-    findings: &Findings,
-) -> Result<(), Stopped>
-    requires { AllByRecursion (λ r. InDomain findings.now.domain r.words) findings.now.records }
-    ensures { Puts O.written O.faults out.old (limits_text findings.now.limits ++ (tests_text program.now findings.now.domain findings.now.records (length findings.now.records) ++ counts_text findings.now.records findings.now.refuted)) out.new result }
-{
-    put_limits(out, findings.limits)?;
-    put_from_tests(out, program, findings)
-}
-
-#[tactic(auto, using(px_io::proofs::Putting::writing))]
-fn put_from_bounds<O: Sink>(
-    out: &mut O,
-    program: &Program,
-    findings: &Findings,
-) -> Result<(), Stopped>
-    requires { AllByRecursion (λ r. InDomain findings.now.domain r.words) findings.now.records }
-    ensures { Puts O.written O.faults out.old (bounds_text findings.now.bounds ++ (limits_text findings.now.limits ++ (tests_text program.now findings.now.domain findings.now.records (length findings.now.records) ++ counts_text findings.now.records findings.now.refuted))) out.new result }
-{
-    put_bounds(out, findings.bounds)?;
-    put_from_limits(out, program, findings)
-}
-
-#[tactic(auto, using(px_io::proofs::Putting::writing))]
-fn put_from_domain<O: Sink>(
-    out: &mut O,
-    program: &Program,
-    findings: &Findings,
-) -> Result<(), Stopped>
-    requires { AllByRecursion (λ r. InDomain findings.now.domain r.words) findings.now.records }
-    ensures { Puts O.written O.faults out.old (domain_text findings.now.domain ++ (bounds_text findings.now.bounds ++ (limits_text findings.now.limits ++ (tests_text program.now findings.now.domain findings.now.records (length findings.now.records) ++ counts_text findings.now.records findings.now.refuted)))) out.new result }
-{
-    put_domain(out, findings.domain.parts())?;
-    put_from_bounds(out, program, findings)
-}
-
 /// Writes the report of what was found. It takes no memory. `Stopped` comes only where a write failed.
-#[tactic(auto, using(px_io::proofs::Putting::writing), unfolding(crate::specs::Text::text_of))]
+#[tactic(auto, unfolding(crate::specs::Text::text_of))]
 pub fn write_report<O: Sink>(
     program: &Program,
     input: &Input,
@@ -153,6 +120,7 @@ pub fn write_report<O: Sink>(
     requires { AllByRecursion (λ r. InDomain findings.now.domain r.words) findings.now.records }
     ensures { Puts O.written O.faults out.old (text_of program.now input.now findings.now) out.new result }
 {
-    put_input(out, input)?;
-    put_from_domain(out, program, findings)
+    let parts = findings.domain.parts();
+    let records = findings.records.as_slice();
+    put_report(out, program, input, findings, parts, records)
 }

@@ -1,4 +1,4 @@
--- The tree of the paths of records. Its nodes are the proper fronts of the paths; each has the sides of the site that follows it.
+-- The tree of the paths of records. Its nodes are the proper prefixes of the paths; each has the sides of the site that follows it.
 use Rattle.std.specs.Prelude.{◌≡◌, ℕ, zero, suc, List, [], ◌∷◌, ◌++◌, ◌&&◌, ◌⊎◌, not, nat_lt, Bool, if◌then◌else◌, Option, Some, None, length, take, slice_get, map, filter}
 use Rattle.std.specs.List.{list_any}
 use Rattle.px_program.specs.declared.record.Event.{Event}

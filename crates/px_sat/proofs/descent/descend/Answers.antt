@@ -1,7 +1,9 @@
-use Rattle.std.proofs.Common.{◌≡◌, ◌∙◌, sym, subst, arith}
+use Rattle.std.proofs.Common.{◌≡◌, ◌∙◌, ap, sym, subst, arith}
+use Rattle.std.specs.Prelude.{is_some}
 use Rattle.px_trail.specs.declared.outcome.Outcome.{Outcome}
+use Rattle.px_trail.specs.Outcome.{IsOutcome}
 use Rattle.px_sat.specs.Descent.{Decides}
-use Rattle.px_sat.proofs.Descents.{comes-decided, comes-whole, down-decided}
+use Rattle.px_sat.proofs.Descents.{comes-decided, comes-start, comes-whole, down-decided, down-same, down-start}
 use Rattle.px_sat.proofs.Orders.{below_at}
 use Rattle.px_sat.proofs.descent.descend.Goals as goal
 use Rattle.px_sat.proofs.descent.descend.Goals.{In_ok-number}
@@ -38,3 +40,24 @@ pub returns-clause-comes_to : goal.returns-clause-comes_to
 returns-clause-comes_to c =
     comes-whole c.loop-variable.trail c.loop-variable.decisions.items c.variables-variable-items.result.now c.loop-variable.variable-index c.args.order.now c.loop-variable.invariant.down
     c.loop-variable-test.false c.variables-variable-items.ensures.all (c.requires.vars ∙ sym c.loop-variable.invariant.vars)
+
+pub loop-variable-init : goal.loop-variable-init
+loop-variable-init c = record {
+  down = down-start c.args.trail.now c.propagate.new.self c.args.decisions.now.items c.variables-variable-items.result.now c.requires.undecided c.propagate.ensures.goes_on c.requires.empty
+      (subst (IsOutcome c.propagate.new.self) c.in_default.is c.propagate.ensures.outcome);
+  vars = c.propagate.ensures.goes_on.vars;
+  clauses = c.propagate.ensures.goes_on.clauses;
+}
+
+pub returns-in-Conflict-clause-comes_to : goal.returns-in-Conflict-clause-comes_to
+returns-in-Conflict-clause-comes_to c =
+    comes-start c.args.trail.now c.propagate.new.self c.args.decisions.now.items c.in-Conflict.number c.requires.undecided c.propagate.ensures.goes_on c.requires.empty
+    (subst (IsOutcome c.propagate.new.self) c.in-Conflict.is c.propagate.ensures.outcome)
+
+pub loop-variable-preserved-then-is_some : goal.loop-variable-preserved-then-is_some
+loop-variable-preserved-then-is_some c = record {
+  down = down-same c.loop-variable.trail c.loop-variable.decisions.items c.variables-variable-items.result.now c.loop-variable.variable-index c.loop-variable-test.true
+      c.loop-variable.invariant.down (ap is_some (sym c.value.ensures) ∙ sym c.is_some.ensures ∙ c.if-is_some.true);
+  vars = c.loop-variable.invariant.vars;
+  clauses = c.loop-variable.invariant.clauses;
+}
