@@ -17,7 +17,6 @@ use Rattle.px_link_methods.specs.Methods.{sig_at}
 use Rattle.px_link_tokens.specs.Operands.{check_in, member_name, parent_ref, text_at_token}
 use Rattle.px_link_tokens.specs.declared.operand.Operand.TheVariants as operand
 use Rattle.px_pe.specs.Image as pe
-use Rattle.px_program.specs.Formed.{explicit_params}
 use Rattle.px_program.specs.declared.instr.Callee.{Callee}
 use Rattle.px_program.specs.declared.instr.Callee.TheVariants as callees
 use Rattle.px_program.specs.declared.instr.Check.{Check}
@@ -42,7 +41,9 @@ use Rattle.px_asm_opcodes.specs.Recoding.{IsRawOf}
 use Rattle.px_sig.specs.declared.sig.Integer.{Integer}
 use Rattle.px_sig.specs.declared.sig.Integer.TheVariants as integers
 use Rattle.px_sig.specs.declared.sig.MethodSig.{MethodSig}
-use Rattle.px_sig.specs.declared.sig.SigType.{SigType, Void, Int, Str, Object, Class, Array}
+use Rattle.px_sig.specs.Grammar.{array_of, plain_type}
+use Rattle.px_sig.specs.declared.sig.SigLeaf.TheVariants.{Void, Int, Str, Object, Class}
+use Rattle.px_sig.specs.declared.sig.SigType.{SigType}
 use Rattle.px_tables.specs.Metadata.{View}
 use Rattle.px_link_types.specs.Keys.{base_index, is_class, library_ref}
 use Rattle.px_link_types.specs.Numbers.{instance_fields, integer_place, static_fields}
@@ -81,20 +82,20 @@ pub record IsClass (p : Program) (type : ℕ) : Type 0 where
 
 -- the type in a signature says what the place holds
 pub data IsTypeOf (p : Program) : Place → SigType → Type 0 where
-  IsNumber : (integer : Integer) (place : Place) (type : SigType) → place ≡ integer_place integer → type ≡ Int integer → IsTypeOf p place type
-  IsObject : (place : Place) (type : SigType) → place ≡ places.Ref 0 → type ≡ Object → IsTypeOf p place type
-  IsText : (place : Place) (type : SigType) → place ≡ places.Ref 17 → type ≡ Str → IsTypeOf p place type
-  IsOther : (class : ℕ) (place : Place) (type : SigType) → class ≢ 0 → class ≢ 17 → IsClass p class → place ≡ places.Ref class → type ≡ Class (class_token p class) → IsTypeOf p place type
-  IsArray : (array : ℕ) (element place : Place) (inner type : SigType) → HasElement p array element → IsTypeOf p element inner → place ≡ places.Ref array → type ≡ Array inner → IsTypeOf p place type
+  IsNumber : (integer : Integer) (place : Place) (type : SigType) → place ≡ integer_place integer → type ≡ plain_type (Int integer) → IsTypeOf p place type
+  IsObject : (place : Place) (type : SigType) → place ≡ places.Ref 0 → type ≡ plain_type Object → IsTypeOf p place type
+  IsText : (place : Place) (type : SigType) → place ≡ places.Ref 17 → type ≡ plain_type Str → IsTypeOf p place type
+  IsOther : (class : ℕ) (place : Place) (type : SigType) → class ≢ 0 → class ≢ 17 → IsClass p class → place ≡ places.Ref class → type ≡ plain_type (Class (class_token p class)) → IsTypeOf p place type
+  IsArray : (array : ℕ) (element place : Place) (inner type : SigType) → HasElement p array element → IsTypeOf p element inner → place ≡ places.Ref array → type ≡ array_of inner → IsTypeOf p place type
 
 abbrev pub IsReturnOf : Program → Option Place → SigType → Type 0
-IsReturnOf p None type = type ≡ Void
+IsReturnOf p None type = type ≡ plain_type Void
 IsReturnOf p (Some place) type = IsTypeOf p place type
 
 pub record IsSigOf (p : Program) (method : Method) (sig : MethodSig) : Type 0 where
   pub has_this : sig.has_this ≡ not method.is_static
   pub plain : sig.plain ≡ true
-  pub params : AllZip (IsTypeOf p) (explicit_params method) sig.params
+  pub params : AllZip (IsTypeOf p) method.params sig.params
   pub ret : IsReturnOf p method.ret sig.ret
 
 -- TYPES
@@ -144,7 +145,7 @@ pub record NamesReference (v : View) (at : ℕ) (name : List ℕ) (sig : MethodS
   pub name_is : member_name v (row_in at) ≡ name
   pub has_sig : method_sig_at v (cell v member_refs (row_in at) 2) ≡ Some sig
   pub plain : sig.plain ≡ true
-  pub no_return : sig.ret ≡ Void
+  pub no_return : sig.ret ≡ plain_type Void
 
 -- the token of a constructor of a type of the library
 pub record NamesConstructor (p : Program) (v : View) (class : ℕ) (params : List Place) (at : ℕ) : Type 0 where
@@ -159,7 +160,7 @@ pub record NamesCheck (v : View) (check : Check) (at : ℕ) : Type 0 where
   pub reference : NamesReference v at (codes "IsTrue") sig
   pub parent : check_in v (parent_ref v (row_in at)) ≡ Some check
   pub static : sig.has_this ≡ false
-  pub takes : sig.params ≡ Int integers.Bool ∷ []
+  pub takes : sig.params ≡ plain_type (Int integers.Bool) ∷ []
 
 abbrev pub NamesCallee : Program → View → Callee → ℕ → Type 0
 NamesCallee p v (callees.Method method) at = NamesMethod p method at

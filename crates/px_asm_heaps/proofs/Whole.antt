@@ -72,7 +72,7 @@ abbrev pub kind_of : Bool → ℕ
 kind_of has_this = if has_this then 0x20 else 0x00
 
 front_read : (has_this : Bool) (blob rest : List ℕ) (count : ℕ) → blob ≡ kind_of has_this ∷ (number_bytes count ++ rest) → count < 2 ^ 29
-    → front_at blob 0 ≡ Ok (record { value = record { has_this = has_this; plain = true; count = count }; end = 1 + length (number_bytes count) })
+    → front_at is_kind blob 0 ≡ Ok (record { value = record { has_this = has_this; plain = true; count = count }; end = 1 + length (number_bytes count) })
 unfolding front_at generic_at
 front_read true blob rest count is few = rw (where_there is_kind blob (number_bytes count ++ rest) 0 0x20 is refl, number_there blob rest 1 count (ap (drop 1) is) few) refl
 front_read false blob rest count is few = rw (where_there is_kind blob (number_bytes count ++ rest) 0 0x00 is refl, number_there blob rest 1 count (ap (drop 1) is) few) refl

@@ -1,10 +1,10 @@
 -- Types as they are written (Partition II, 23.2.12).
-use Rattle.std.specs.Prelude.{ℕ, ◌+◌, ◌*◌, ◌/◌, ◌%◌, ◌^◌, ◌==◌, if◌then◌else◌, List, [], ◌∷◌}
+use Rattle.std.specs.Prelude.{ℕ, ◌+◌, ◌*◌, ◌/◌, ◌%◌, ◌^◌, ◌==◌, if◌then◌else◌, List, [], ◌∷◌, ◌++◌, replicate}
 use Rattle.px_sig.specs.declared.sig.Integer.{Integer}
 use Rattle.px_sig.specs.declared.sig.Integer.TheVariants as integers
+use Rattle.px_sig.specs.declared.sig.SigLeaf.{SigLeaf}
+use Rattle.px_sig.specs.declared.sig.SigLeaf.TheVariants.{Void, Int, Str, Object, Class, Other}
 use Rattle.px_sig.specs.declared.sig.SigType.{SigType}
-use Rattle.px_sig.specs.declared.sig.SigType.TheFolds.{fold-SigType}
-use Rattle.px_sig.specs.declared.sig.SigType.TheOpen.{SigType-F, Void, Int, Str, Object, Class, Array, Other}
 use Rattle.px_asm_heaps.specs.Numbers.{number_bytes}
 
 abbrev pub integer_code : Integer → ℕ
@@ -29,15 +29,15 @@ tag_of table = if table == 0x02 then 0 else if table == 0x01 then 1 else 2
 unfoldable pub index_of : ℕ → ℕ
 index_of token = token % 2 ^ 24 * 4 + tag_of (token / 2 ^ 24)
 
-abbrev pub bytes_by : SigType-F (List ℕ) → List ℕ
-bytes_by Void = 0x01 ∷ []
-bytes_by (Int integer) = integer_code integer ∷ []
-bytes_by Str = 0x0E ∷ []
-bytes_by Object = 0x1C ∷ []
-bytes_by (Class token) = 0x12 ∷ number_bytes (index_of token)
-bytes_by (Array element) = 0x1D ∷ element
-bytes_by Other = []
+-- the bytes of a type that is no array
+abbrev pub leaf_bytes : SigLeaf → List ℕ
+leaf_bytes Void = 0x01 ∷ []
+leaf_bytes (Int integer) = integer_code integer ∷ []
+leaf_bytes Str = 0x0E ∷ []
+leaf_bytes Object = 0x1C ∷ []
+leaf_bytes (Class token) = 0x12 ∷ number_bytes (index_of token)
+leaf_bytes Other = []
 
--- the bytes of a type of a form that is written
+-- the bytes of a type of a form that is written: a byte for each array around the leaf, and the leaf
 abbrev pub type_bytes : SigType → List ℕ
-type_bytes = fold-SigType (List ℕ) bytes_by
+type_bytes type = replicate type.depth 0x1D ++ leaf_bytes type.leaf

@@ -1,11 +1,11 @@
 // Types: Partition II, 23.2.12.
-ghost use Rattle.std.specs.Prelude.{◌≡◌, ◌≢◌, ◌++◌, true, OnOk};
+ghost use Rattle.std.specs.Prelude.{◌≡◌, ◌++◌, true, OnOk};
 ghost use Rattle.std.specs.List.{flat_map, list_all};
-ghost use Rattle.px_asm_heaps.specs.Spelling.{is_spelled};
-ghost use Rattle.px_asm_heaps.specs.Types.{index_of, integer_code, type_bytes};
+ghost use Rattle.px_asm_heaps.specs.Spelling.{is_leaf_spelled, is_spelled};
+ghost use Rattle.px_asm_heaps.specs.Types.{index_of, integer_code, leaf_bytes, type_bytes};
 
 use crate::compressed::push_count;
-use px_sig::{Integer, SigType};
+use px_sig::{Integer, SigLeaf, SigType};
 use std::alloc::AllocError;
 
 // The byte of an integer type.
@@ -42,21 +42,20 @@ fn index_of(token: u32) -> u32
 }
 
 // Appends the bytes of a type that is no array.
-fn push_leaf(out: &mut Vec<u8>, leaf: &SigType) -> Result<(), AllocError>
-    requires spelled { is_spelled leaf.now ≡ true }
-    requires no_array { (element : SigType) → leaf.now ≢ SigType.Array element }
-    ensures { OnOk result (out.new.items ≡ out.old.items ++ type_bytes leaf.now) }
+fn push_leaf(out: &mut Vec<u8>, leaf: SigLeaf) -> Result<(), AllocError>
+    requires { is_leaf_spelled leaf ≡ true }
+    ensures { OnOk result (out.new.items ≡ out.old.items ++ leaf_bytes leaf) }
 {
     match leaf {
-        SigType::Void => out.push(0x01)?,
-        SigType::Int(integer) => out.push(integer_code(*integer))?,
-        SigType::Str => out.push(0x0E)?,
-        SigType::Object => out.push(0x1C)?,
-        SigType::Class(token) => {
+        SigLeaf::Void => out.push(0x01)?,
+        SigLeaf::Int(integer) => out.push(integer_code(integer))?,
+        SigLeaf::Str => out.push(0x0E)?,
+        SigLeaf::Object => out.push(0x1C)?,
+        SigLeaf::Class(token) => {
             out.push(0x12)?;
-            push_count(out, index_of(*token) as usize)?;
+            push_count(out, index_of(token) as usize)?;
         }
-        SigType::Array(_) | SigType::Other => unreachable!(),
+        SigLeaf::Other => unreachable!(),
     }
     Ok(())
 }
@@ -66,15 +65,13 @@ pub fn push_type(out: &mut Vec<u8>, item: &SigType) -> Result<(), AllocError>
     requires { is_spelled item.now ≡ true }
     ensures { OnOk result (out.new.items ≡ out.old.items ++ type_bytes item.now) }
 {
-    let mut inner = item;
-    while let SigType::Array(element) = inner {
+    for _ in 0..item.depth {
         out.push(0x1D)?;
-        inner = element.get();
     }
-    push_leaf(out, inner)
+    push_leaf(out, item.leaf)
 }
 
-/// Appends the bytes of types, one behind the other.
+/// Appends the bytes of types, one after the other.
 pub fn push_types(out: &mut Vec<u8>, items: &[SigType]) -> Result<(), AllocError>
     requires { list_all is_spelled items.now ≡ true }
     ensures { OnOk result (out.new.items ≡ out.old.items ++ flat_map type_bytes items.now) }

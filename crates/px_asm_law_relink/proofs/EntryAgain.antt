@@ -14,7 +14,7 @@ use Rattle.px_asm_law_relink.proofs.EntryArguments.{fit_again}
 use Rattle.px_asm_law_relink.proofs.EntryMaker.{entry_maker, has_body_again}
 use Rattle.px_asm_law_relink.proofs.EntryNames.{entry_reached, only_entry}
 use Rattle.px_asm_law_relink.proofs.MethodBodies.{all_met, numbered_parts}
-use Rattle.px_asm_law_relink.proofs.MethodStands.{IsSigAgain, arguments_are, sig_again}
+use Rattle.px_asm_law_relink.proofs.MethodStands.{IsSigAgain, sig_again}
 use Rattle.px_asm_law_relink.proofs.Standing.{HasMethodFor, method_stands}
 
 pub record HasEntry (a : Again) : Type 0 where
@@ -38,7 +38,7 @@ entry_fit a has =
     let first = has.is_method.sig in
     let numbers = numbered_parts a a.reads.method first has.whole has.is_method.has_sig (all_met a a.reads.method (entry_reached a) has) in
     fit_again a first.params has.is.sig.params (ap (λ (s : MethodSig). first_unfit s.params) (entry_sig a has) ∙ a.reads.entry.fit) numbers.params
-    (subst (λ l. AllZip (IsTypeOf a.p) l has.is.sig.params) (arguments_are a a.reads.method has) has.is.sig_is.params)
+    (subst (λ l. AllZip (IsTypeOf a.p) l has.is.sig.params) has.is_method.params has.is.sig_is.params)
 
 there-map : {X Y : Type 0} (f : X → Y) (o : Option X) → is_there (option_map f o) ≡ is_there o
 there-map f None = refl

@@ -1,5 +1,5 @@
 -- The full names of methods, read again.
-use Rattle.std.proofs.Common.{◌≡◌, ℕ, List, [], ◌∷◌, ◌++◌, Option, Some, refl, sym, ap, ◌∙◌, subst, arith}
+use Rattle.std.proofs.Common.{◌≡◌, ℕ, List, ◌++◌, Some, sym, ap, ◌∙◌, subst, arith}
 use Rattle.std.specs.Prelude.{codes, slice_get}
 use Rattle.std.proofs.lemmas.List.{append_cancel_left}
 use Rattle.std.proofs.lemmas.Option.{same_Some}
@@ -7,8 +7,7 @@ use Rattle.px_link.proofs.LinkedProgram.{owner_defined}
 use Rattle.px_link.specs.Link.{maker_of, rows_of}
 use Rattle.px_link.specs.Names.{IsNamed, IsOnly}
 use Rattle.px_link.proofs.OneName.{one_name}
-use Rattle.px_meta.specs.Chains.{Ends, GoesOn, IsChain, outer_of}
-use Rattle.px_meta.specs.FullNames.{IsTypeName, type_name}
+use Rattle.px_meta.specs.FullNames.{IsTypeName}
 use Rattle.px_meta.specs.Members.{owner_of}
 use Rattle.px_meta.specs.Rows.{cell, methods, text_at}
 use Rattle.px_link_methods.specs.Codes.{place_of}

@@ -16,8 +16,9 @@ use Rattle.px_program.specs.declared.instr.Code.TheVariants as code
 use Rattle.px_asm_law_relink.proofs.TypeReads.{some_row_is}
 use Rattle.px_sig.specs.declared.sig.Integer.TheVariants as integers
 use Rattle.px_sig.specs.declared.sig.MethodSig.{MethodSig}
-use Rattle.px_sig.specs.declared.sig.SigType.{SigType, Int}
-use Rattle.px_sig.specs.declared.sig.SigType as variants
+use Rattle.px_sig.specs.Grammar.{plain_type}
+use Rattle.px_sig.specs.declared.sig.SigLeaf.TheVariants.{Int}
+use Rattle.px_sig.specs.declared.sig.SigType.{SigType}
 use Rattle.px_tables.specs.Metadata.{View}
 use Rattle.px_link_types.specs.declared.key.Key.{Key}
 use Rattle.px_link_types.specs.declared.key.Leaf.{Leaf}
@@ -29,7 +30,6 @@ use Rattle.px_asm_described.specs.Describes.{IsTypeOf, NamesCheck, NamesConstruc
 use Rattle.px_asm_law_relink.proofs.InstrMethods.{call_stands, make_stands, virtual_stands, void_is_void}
 use Rattle.px_asm_law_relink.proofs.InstrOperands.{StandsWith}
 use Rattle.px_asm_law_relink.proofs.TypesAgain.{same_place, type_reads}
-use denote.Hole.Carrier
 
 -- REFERENCES
 
@@ -137,8 +137,7 @@ make_constructor a class keys may met = record {
 
 -- CHECKS
 
-bool_is_bool : is_bool (Int integers.Bool ∷ []) ≡ true
-unfolding variants.out-SigType denote.Hole.Carrier.out
+bool_is_bool : is_bool (plain_type (Int integers.Bool) ∷ []) ≡ true
 bool_is_bool = refl
 
 checked : (a : Again) (check : Check) (at : ℕ) → (names : NamesCheck a.v check at) → check_of a.v (row_in at) names.sig ≡ Some (operand.Check check)

@@ -1,5 +1,5 @@
 -- Methods that tokens name, read again.
-use Rattle.std.proofs.Common.{◌≡◌, ◌≢◌, ℕ, ◌+◌, Bool, true, false, List, [], ◌∷◌, ◌++◌, drop, map, Option, Some, None, refl, ap, ◌∙◌, subst, eqb-true, eq-eqb}
+use Rattle.std.proofs.Common.{◌≡◌, ◌≢◌, ℕ, ◌+◌, Bool, true, false, List, [], ◌∷◌, map, Option, Some, None, refl, ap, ◌∙◌, subst, eqb-true, eq-eqb}
 use Rattle.std.specs.Prelude.{◌==◌, ◌&&◌, ◌||◌, not, if◌then◌else◌}
 use Rattle.std.specs.List.{AllByRecursion, AllZip, list_all, zip}
 use Rattle.std.proofs.lemmas.Bool.{and_from, and_parts, cond-false, cond-true, cond_both, ne_eqb, eqb-false, not-true, or_left, or_right}
@@ -7,7 +7,7 @@ use Rattle.px_meta.specs.Members.{owner_of}
 use Rattle.px_meta.specs.Rows.{cell, methods, some_row}
 use Rattle.px_meta.specs.Tokens.{row_in, table_in}
 use Rattle.px_link_methods.specs.Codes.{place_of}
-use Rattle.px_link_methods.specs.Methods.{keys_of_body, keys_of_sig, met_by, place_of_type, receiver, return_place, sig_at}
+use Rattle.px_link_methods.specs.Methods.{keys_of_body, keys_of_sig, met_by, place_of_type, return_place, sig_at}
 use Rattle.px_link_tokens.specs.Operands.{Called, CalledVirtually, Made, Way, has_body, has_initialiser, is_owned, is_run, is_there, is_void, may_be_called, method_by, method_in, operand_of}
 use Rattle.px_link_tokens.specs.declared.operand.Operand.{Operand}
 use Rattle.px_link_tokens.specs.declared.operand.Operand.TheVariants as operand
@@ -17,12 +17,12 @@ use Rattle.px_program.specs.declared.instr.Callee.TheVariants as callees
 use Rattle.px_program.specs.declared.instr.Code.TheVariants as code
 use Rattle.px_program.specs.declared.instr.Instr.{Instr}
 use Rattle.px_program.specs.declared.program.Method.{Method}
-use Rattle.px_program.specs.declared.program.Place.{Place}
 use Rattle.px_program.specs.declared.program.Program.{Program}
 use Rattle.px_asm_law_relink.proofs.TypeReads.{some_row_is}
 use Rattle.px_sig.specs.declared.sig.MethodSig.{MethodSig}
-use Rattle.px_sig.specs.declared.sig.SigType.{SigType, Void}
-use Rattle.px_sig.specs.declared.sig.SigType as variants
+use Rattle.px_sig.specs.Grammar.{plain_type}
+use Rattle.px_sig.specs.declared.sig.SigLeaf.TheVariants.{Void}
+use Rattle.px_sig.specs.declared.sig.SigType.{SigType}
 use Rattle.px_tables.specs.Metadata.{View}
 use Rattle.px_link_types.specs.declared.key.Key.{Key}
 use Rattle.px_link_types.specs.Keys.{key_of, place_key}
@@ -38,7 +38,6 @@ use Rattle.px_asm_law_relink.proofs.InstrInitialisers.{no_initialiser}
 use Rattle.px_asm_law_relink.proofs.InstrOperands.{StandsWith}
 use Rattle.px_asm_law_relink.proofs.Standing.{IsReachedRow, method_stands, methods_apart}
 use Rattle.px_asm_law_relink.proofs.TypesAgain.{IsMet, type_reads}
-use denote.Hole.Carrier
 
 -- NUMBERS
 
@@ -70,13 +69,6 @@ sig_numbered a row sig reached has_sig =
     subst (λ s. AreNumberedIn a.reads.keys (keys_of_sig a.first s)) has_sig
     (each-front (λ key. is_numbered a.reads.keys key ≡ true) (keys_of_sig a.first (sig_at a.first row)) (keys_of_body a.first h.whole) all.1)
 
--- what is given beside the receiver
-beside_receiver : (v : View) (keys : List Key) (owner : ℕ) (static this : Bool) (params others : List Place) → static ≡ not this → params ≡ receiver v keys owner this ++ others → (if static then params else drop 1 params) ≡ others
-beside_receiver v keys owner true true params others static_is is = absurd (cc)
-beside_receiver v keys owner false true params others static_is is = ap (drop 1) is
-beside_receiver v keys owner true false params others static_is is = is
-beside_receiver v keys owner false false params others static_is is = absurd (cc)
-
 is_key : (v : View) (type : SigType) (key : Key) → key_of v type ≡ Some key → is_there (key_of v type) ≡ true
 is_key v type key is = ap is_there is
 
@@ -89,8 +81,7 @@ params_run a (type ∷ types) (new ∷ news) numbered zipped =
     let reads = type_reads a (place_key a.first type) (place_of_type a.first a.reads.keys type) new numbered.0 refl zipped.0 in
     and_from (is_there (key_of a.v new)) (list_all (λ t. is_there (key_of a.v t)) news) (is_key a.v new (key_for a (place_key a.first type)) reads.key_is) (params_run a types news numbered.1 zipped.1)
 
-pub void_is_void : is_void Void ≡ true
-unfolding variants.out-SigType denote.Hole.Carrier.out
+pub void_is_void : is_void (plain_type Void) ≡ true
 void_is_void = refl
 
 -- a return, by that of the first
@@ -123,16 +114,13 @@ sig_for : (a : Again) (row : ℕ) (sig : MethodSig) → IsReachedRow a row → s
 sig_for a row sig reached has_sig =
     let h = method_stands a row reached in
     let other = h.is.sig in
-    let owner = owner_of a.first methods row in
     let same : h.is_method.sig ≡ sig = same_sig a.first (first_numbers a) row h.whole h.method sig h.is_method has_sig in
     let numbered = sig_numbered a row sig reached has_sig in
     let keys = a.reads.keys in
     let is_numbered_key : Key → Type 0 = λ key. is_numbered keys key ≡ true in
     let static : h.method.is_static ≡ not sig.has_this = h.is_method.is_static ∙ ap (λ (s : MethodSig). not s.has_this) same in
-    let params : h.method.params ≡ receiver a.first keys owner sig.has_this ++ map (place_of_type a.first keys) sig.params =
-    h.is_method.params ∙ ap (λ (s : MethodSig). receiver a.first keys owner s.has_this ++ map (place_of_type a.first keys) s.params) same in
-    let arguments = beside_receiver a.first keys owner h.method.is_static sig.has_this h.method.params (map (place_of_type a.first keys) sig.params) static params in
-    let given : AllZip (IsTypeOf a.p) (map (place_of_type a.first keys) sig.params) other.params = subst (λ ps. AllZip (IsTypeOf a.p) ps other.params) arguments h.is.sig_is.params in
+    let params : h.method.params ≡ map (place_of_type a.first keys) sig.params = h.is_method.params ∙ ap (λ (s : MethodSig). map (place_of_type a.first keys) s.params) same in
+    let given : AllZip (IsTypeOf a.p) (map (place_of_type a.first keys) sig.params) other.params = subst (λ ps. AllZip (IsTypeOf a.p) ps other.params) params h.is.sig_is.params in
     let ret : h.method.ret ≡ return_place a.first keys sig.ret = h.is_method.ret ∙ ap (λ (s : MethodSig). return_place a.first keys s.ret) same in
     let returned = return_by a sig.ret other.ret (is_void sig.ret) refl (each-back is_numbered_key (map (place_key a.first) sig.params) (place_key a.first sig.ret ∷ []) numbered).0
     (subst (λ r. IsReturnOf a.p r other.ret) ret h.is.sig_is.ret) in

@@ -21,7 +21,7 @@ use Rattle.px_asm_law_relink.specs.Laws.{DescribedIsLinked}
 use Rattle.px_asm_law_relink.specs.Linked.{entry_name}
 use Rattle.px_asm_law_relink.proofs.EntryAgain.{HasEntry, entry_again}
 use Rattle.px_asm_law_relink.proofs.MethodsAgain.{met_again, methods_again, reached_again, reached_for}
-use Rattle.px_asm_law_relink.proofs.OverridingAgain.{are_lists, layout_again, lists_for, overrides_again}
+use Rattle.px_asm_law_relink.proofs.OverridingAgain.{are_lists, layout_again, lists_for, overrides_again, targets_again, targets_of}
 use Rattle.px_asm_law_relink.proofs.ReachedMaps.{test_by}
 use Rattle.px_asm_law_relink.proofs.Standing.{IsReachedRow}
 use Rattle.px_asm_law_relink.proofs.TypesAgain.{infos_again, numbers_again}
@@ -60,18 +60,18 @@ maker_again a entry =
 -- TYPES
 
 type_by : (a : Again) (k : ℕ) (key : Key) (first : Option Key) (info type : TypeInfo) → slice_get a.reads.keys k ≡ first → option_map (key_for a) first ≡ Some key
-    → slice_get a.reads.types.bare k ≡ Some info → slice_get a.p.types k ≡ Some type → IsLinkedType a.v (numbers_for a) (lists_for a) (methods_for a a.reads.reached.virtual_targets) key info type
+    → slice_get a.reads.types.bare k ≡ Some info → slice_get a.p.types k ≡ Some type → IsLinkedType a.v (numbers_for a) (lists_for a) (methods_for a (targets_of a)) key info type
 type_by a k key None info type at same info_at type_at = absurd (cc)
 type_by a k key (Some first) info type at same info_at type_at =
     let linked = a.reads.types.each k first info type at info_at type_at in
-    subst (λ other. IsLinkedType a.v (numbers_for a) (lists_for a) (methods_for a a.reads.reached.virtual_targets) other info type) (same_Some (key_for a first) key same)
+    subst (λ other. IsLinkedType a.v (numbers_for a) (lists_for a) (methods_for a (targets_of a)) other info type) (same_Some (key_for a first) key same)
     (record {
       pairs = linked.pairs;
       overrides = overrides_again a first.depth first.leaf linked.pairs (has_at a.reads.keys k first at) linked.overrides;
       is = linked.is;
     })
 
-types_again : (a : Again) → AreLinkedTypes a.v (numbers_for a) (lists_for a) (methods_for a a.reads.reached.virtual_targets) a.p.types
+types_again : (a : Again) → AreLinkedTypes a.v (numbers_for a) (lists_for a) (methods_for a (targets_of a)) a.p.types
 types_again a = record {
   bare = a.reads.types.bare;
   infos = infos_again a;
@@ -94,7 +94,7 @@ links_again a =
       is_reached = is_reached a entry;
       keys = keys_for a a.reads.keys;
       numbers = subst (λ met. Numbers a.v library_keys met (keys_for a a.reads.keys)) (sym (met_again a)) (numbers_again a);
-      types = types_again a;
+      types = subst (λ targets. AreLinkedTypes a.v (numbers_for a) (lists_for a) targets a.p.types) (sym (targets_again a)) (types_again a);
       methods = methods_again a;
       entry_is = a.reads.entry_is;
       maker_is = maker_again a entry;

@@ -1,6 +1,6 @@
 -- A method is read again: what it is, what it meets and what it calls.
-use Rattle.std.proofs.Common.{◌≡◌, ℕ, Bool, true, false, List, [], ◌∷◌, ◌++◌, map, Some, refl, sym, ap, ◌∙◌, subst}
-use Rattle.std.specs.Prelude.{drop, not, if◌then◌else◌, slice_get}
+use Rattle.std.proofs.Common.{◌≡◌, ℕ, Bool, true, false, [], ◌∷◌, ◌++◌, map, Some, refl, sym, ap, ◌∙◌, subst}
+use Rattle.std.specs.Prelude.{not, slice_get}
 use Rattle.std.specs.List.{AllZip, flat_map}
 use Rattle.std.proofs.lemmas.List.{map-append}
 use Rattle.std.proofs.lemmas.Option.{same_Some}
@@ -9,22 +9,18 @@ use Rattle.px_meta.specs.FullNames.{IsTypeName}
 use Rattle.px_meta.specs.Members.{owner_of}
 use Rattle.px_meta.specs.Rows.{methods}
 use Rattle.px_link_methods.specs.Codes.{owner_number}
-use Rattle.px_link_methods.specs.Methods.{IsMethod, IsMethodName, keys_of_body, keys_of_clause, keys_of_instr, keys_of_sig, met_by, place_of_type, receiver, sig_at}
+use Rattle.px_link_methods.specs.Methods.{IsMethod, IsMethodName, keys_of_body, keys_of_clause, keys_of_instr, keys_of_sig, met_by, sig_at}
 use Rattle.px_link_methods.specs.Slots.{forms_of}
 use Rattle.px_program.specs.declared.program.Method.{Method}
-use Rattle.px_program.specs.declared.program.Place.{Place}
-use Rattle.px_program.specs.declared.program.Place.TheVariants as places
 use Rattle.px_program.specs.declared.program.TypeInfo.{TypeInfo}
 use Rattle.px_link_reach.specs.Met.{calls_at, calls_of, in_body, virtual_target_of, virtual_targets_at}
 use Rattle.px_link_reach.specs.declared.body.Whole.{Whole}
 use Rattle.px_sig.specs.declared.sig.MethodSig.{MethodSig}
 use Rattle.px_link_types.specs.Keys.{alone, place_key}
 use Rattle.px_link_types.specs.Numbers.{number_of}
-use Rattle.px_link_types.specs.declared.key.Key.{Key}
 use Rattle.px_link_types.specs.declared.key.Leaf.TheVariants.{Defined}
 use Rattle.px_asm_law_relink.specs.Again.{Again, key_for, keys_for, method_for, methods_for, numbers_for, type_for}
 use Rattle.px_asm_described.specs.Describes.{IsReturnOf, IsTypeOf, raw_clause}
-use Rattle.px_program.specs.Formed.{explicit_params}
 use Rattle.px_asm_law_relink.proofs.MethodBodies.{HasBodyFor, all_called, all_met, all_named, all_run, body_for, numbered_parts}
 use Rattle.px_asm_law_relink.proofs.MethodClauses.{AreClausesAgain, clauses_again}
 use Rattle.px_asm_law_relink.proofs.MethodCodes.{AreCodesAgain, all_calls, all_virtual, codes_again}
@@ -38,16 +34,6 @@ use Rattle.px_asm_law_relink.proofs.TypesAgain.{same_number, type_stands}
 not_not : (b : Bool) → not (not b) ≡ b
 not_not true = refl
 not_not false = refl
-
--- the arguments are the parameters of the signature
-arguments_by : (owner : ℕ) (this static : Bool) (params rest : List Place) (keys : List Key) (a : Again) → static ≡ not this → params ≡ receiver a.first keys owner this ++ rest → (if static then params else drop 1 params) ≡ rest
-arguments_by owner true static params rest keys a is are = ap (λ (b : Bool). if b then params else drop 1 params) is ∙ ap (drop 1) are
-arguments_by owner false static params rest keys a is are = ap (λ (b : Bool). if b then params else drop 1 params) is ∙ are
-
-pub arguments_are : (a : Again) (row : ℕ) → (has : HasMethodFor a row) → explicit_params has.method ≡ map (place_of_type a.first a.reads.keys) has.is_method.sig.params
-arguments_are a row has =
-    arguments_by (owner_of a.first methods row) has.is_method.sig.has_this has.method.is_static has.method.params (map (place_of_type a.first a.reads.keys) has.is_method.sig.params) a.reads.keys a
-    has.is_method.is_static has.is_method.params
 
 -- what the two signatures have in common
 pub record IsSigAgain (a : Again) (first sig : MethodSig) : Type 0 where
@@ -64,7 +50,7 @@ sig_again a row reached has =
     record {
       this = has.is.sig_is.has_this ∙ ap not has.is_method.is_static ∙ not_not first.has_this;
       plain = has.is.sig_is.plain;
-      params = types_again a first.params sig.params numbers.params (subst (λ l. AllZip (IsTypeOf a.p) l sig.params) (arguments_are a row has) has.is.sig_is.params);
+      params = types_again a first.params sig.params numbers.params (subst (λ l. AllZip (IsTypeOf a.p) l sig.params) has.is_method.params has.is.sig_is.params);
       ret = return_again a first.ret sig.ret numbers.ret (subst (λ o. IsReturnOf a.p o sig.ret) has.is_method.ret has.is.sig_is.ret);
     }
 
@@ -89,22 +75,6 @@ owner_name_again a row has =
 
 name_again : (a : Again) (row : ℕ) → (has : HasMethodFor a row) → IsMethodName a.v (method_for a row) has.method.name
 name_again a row has = record { type = has.is.name.owner.name; type_is = owner_name_again a row has; is = has.is.name.is }
-
-receiver_again : (a : Again) (owner other : ℕ) (this : Bool) → owner_number a.v (keys_for a a.reads.keys) other ≡ owner_number a.first a.reads.keys owner → receiver a.v (keys_for a a.reads.keys) other this ≡ receiver a.first a.reads.keys owner this
-receiver_again a owner other false same = refl
-receiver_again a owner other true same = ap (λ n. places.Ref n ∷ []) same
-
-params_again : (a : Again) (row : ℕ) → (has : HasMethodFor a row) → IsSigAgain a has.is_method.sig has.is.sig
-    → has.method.params ≡ receiver a.v (keys_for a a.reads.keys) (owner_of a.v methods (method_for a row)) has.is.sig.has_this ++ map (place_of_type a.v (keys_for a a.reads.keys)) has.is.sig.params
-params_again a row has again =
-    let owner = owner_of a.first methods row in
-    let other = owner_of a.v methods (method_for a row) in
-    let first = has.is_method.sig in
-    let sig = has.is.sig in
-    has.is_method.params
-    ∙ ap (λ b. receiver a.first a.reads.keys owner b ++ map (place_of_type a.first a.reads.keys) first.params) (sym again.this)
-    ∙ ap (λ l. l ++ map (place_of_type a.first a.reads.keys) first.params) (sym (receiver_again a owner other sig.has_this (owner_again a row has)))
-    ∙ ap (λ l. receiver a.v (keys_for a a.reads.keys) other sig.has_this ++ l) (sym again.params.places)
 
 -- THE BODY
 
@@ -133,7 +103,7 @@ is_again a row has body sig parts = record {
   name = name_again a row has;
   owner = has.is_method.owner ∙ sym (owner_again a row has);
   is_static = sym (ap not has.is.sig_is.has_this ∙ not_not has.method.is_static);
-  params = params_again a row has sig;
+  params = has.is_method.params ∙ sym sig.params.places;
   ret = has.is_method.ret ∙ sym sig.ret.place;
   locals = has.is_method.locals ∙ sym parts.locals.places;
   max_stack = body.max_stack;

@@ -1,28 +1,26 @@
 -- The types of a signature and of locals, read again.
-use Rattle.std.proofs.Common.{◌≡◌, ℕ, zero, suc, Bool, true, false, List, [], ◌∷◌, ◌++◌, map, Option, Some, None, refl, sym, ap, ◌∙◌}
-use Rattle.std.specs.Prelude.{◌&&◌, not, slice_get}
+use Rattle.std.proofs.Common.{◌≡◌, ℕ, zero, suc, Bool, true, false, List, [], ◌∷◌, ◌++◌, map, Some, None, refl, sym, ap, ◌∙◌, arith}
+use Rattle.std.specs.Prelude.{◌==◌, ◌&&◌, not, slice_get}
 use Rattle.std.specs.List.{AllByRecursion, AllZip}
-use Rattle.std.proofs.lemmas.Bool.{and_left, and_right, cond-false, cond-true, cond_both}
+use Rattle.std.proofs.lemmas.Bool.{and_left, and_parts, and_right, cond-false, cond-true, cond_both, ne_eqb}
 use Rattle.std.proofs.lemmas.Simd.{map-map}
 use Rattle.px_link_methods.specs.Methods.{place_of_type, return_place}
 use Rattle.px_link_methods.specs.Slots.{Forms, forms_of, is_other, is_set, receiver_form}
-use Rattle.px_link_tokens.specs.Operands.{is_there, is_void, is_void_layer}
+use Rattle.px_link_tokens.specs.Operands.{is_there, is_void, is_void_leaf}
 use Rattle.px_program.specs.declared.instr.Code.TheVariants as code
 use Rattle.px_program.specs.declared.instr.Move.TheVariants as move
 use Rattle.px_program.specs.declared.program.Place.{Place}
 use Rattle.px_sig.specs.declared.sig.MethodSig.{MethodSig}
+use Rattle.px_sig.specs.Grammar.{plain_type}
+use Rattle.px_sig.specs.declared.sig.SigLeaf.{SigLeaf}
+use Rattle.px_sig.specs.declared.sig.SigLeaf.TheVariants.{Void, Int, Str, Object, Class, Other}
 use Rattle.px_sig.specs.declared.sig.SigType.{SigType}
-use Rattle.px_sig.specs.declared.sig.SigType.TheFolds.{fold-roll-SigType, ind-SigType}
-use Rattle.px_sig.specs.declared.sig.SigType.TheOpen as open'
-use Rattle.px_sig.specs.declared.sig.SigType.TheVariants.{Void, Int, Str, Object, Class, Array, rolls-Void, rolls-Int, rolls-Str, rolls-Object, rolls-Class, rolls-Array}
-use Rattle.px_sig.specs.declared.sig.SigType.TheViews.{out-roll-SigType, roll-SigType}
 use Rattle.px_tables.specs.Metadata.{View}
-use Rattle.px_link_types.specs.Keys.{key_by, key_of, key_or_object, object, place_key}
+use Rattle.px_link_types.specs.Keys.{in_arrays, key_or_object, leaf_of, object, place_key}
 use Rattle.px_link_types.specs.Making.{AreNumberedIn}
 use Rattle.px_link_types.specs.Numbers.{is_numbered, place_in}
-use Rattle.px_link_types.specs.declared.key.Key.{Key}
 use Rattle.px_asm_law_relink.specs.Again.{Again, key_for, keys_for}
-use Rattle.px_asm_described.specs.Describes.{IsArray, IsNumber, IsObject, IsOther, IsReturnOf, IsText, IsTypeOf, class_token}
+use Rattle.px_asm_described.specs.Describes.{IsArray, IsNumber, IsObject, IsOther, IsReturnOf, IsText, IsTypeOf}
 use Rattle.px_asm_law_relink.proofs.InstrsAgain.{BarsNothing}
 use Rattle.px_asm_law_relink.proofs.TypesAgain.{same_place, type_reads}
 
@@ -88,44 +86,30 @@ pub record IsReturnAgain (a : Again) (first type : SigType) : Type 0 where
   pub void : is_void type ≡ is_void first
   pub runs : (is_other a.v type && not (is_void type)) ≡ false
 
-void_rolled : (layer : open'.SigType-F SigType) (type : SigType) → roll-SigType layer ≡ type → is_void type ≡ is_void_layer layer
-void_rolled layer type rolls = ap is_void (sym rolls) ∙ ap is_void_layer (out-roll-SigType layer)
-
 -- what a place holds isn't void
 pub some_type : (a : Again) (place : Place) (type : SigType) → IsTypeOf a.p place type → is_void type ≡ false
-some_type a _ _ (IsNumber integer place type e is) = ap is_void is ∙ void_rolled (open'.Int integer) (Int integer) (rolls-Int integer)
-some_type a _ _ (IsObject place type e is) = ap is_void is ∙ void_rolled open'.Object Object rolls-Object
-some_type a _ _ (IsText place type e is) = ap is_void is ∙ void_rolled open'.Str Str rolls-Str
-some_type a _ _ (IsOther class place type other text plain e is) = ap is_void is ∙ void_rolled (open'.Class (class_token a.p class)) (Class (class_token a.p class)) (rolls-Class (class_token a.p class))
-some_type a _ _ (IsArray array element place inner type has of e is) = ap is_void is ∙ void_rolled (open'.Array inner) (Array inner) (rolls-Array inner)
+some_type a _ _ (IsNumber integer place type e is) = ap is_void is
+some_type a _ _ (IsObject place type e is) = ap is_void is
+some_type a _ _ (IsText place type e is) = ap is_void is
+some_type a _ _ (IsOther class place type other text plain e is) = ap is_void is
+some_type a _ _ (IsArray array element place inner type has of e is) = ap is_void is ∙ and_left (suc inner.depth == 0) (is_void_leaf inner.leaf) (ne_eqb (suc inner.depth) 0 (λ e. omega arith))
 
-void_layer : (layer : open'.SigType-F SigType) → is_void_layer layer ≡ true → roll-SigType layer ≡ Void
-void_layer open'.Void void = rolls-Void
-void_layer (open'.Int integer) void = absurd (cc)
-void_layer open'.Str void = absurd (cc)
-void_layer open'.Object void = absurd (cc)
-void_layer (open'.Class at) void = absurd (cc)
-void_layer (open'.Array element) void = absurd (cc)
-void_layer open'.Other void = absurd (cc)
-
-abbrev IsVoidAlone : SigType → Type 0
-IsVoidAlone type = is_void type ≡ true → type ≡ Void
-
-void_by : (layer : open'.SigType-F SigType) → IsVoidAlone (roll-SigType layer)
-void_by layer void = void_layer layer (sym (void_rolled layer (roll-SigType layer) refl) ∙ void)
-
-pub void_is : (type : SigType) → IsVoidAlone type
-void_is = ind-SigType IsVoidAlone (λ x y is. void_by x)
-
-no_key : (v : View) → key_of v Void ≡ None
-no_key v = ap (key_of v) (sym rolls-Void) ∙ fold-roll-SigType (Option Key) (key_by v) open'.Void
+void_leaf : (leaf : SigLeaf) → is_void_leaf leaf ≡ true → leaf ≡ Void
+void_leaf Void void = refl
+void_leaf (Int integer) void = absurd (cc)
+void_leaf Str void = absurd (cc)
+void_leaf Object void = absurd (cc)
+void_leaf (Class at) void = absurd (cc)
+void_leaf Other void = absurd (cc)
 
 void_key : (v : View) (type : SigType) → is_void type ≡ true → place_key v type ≡ object
-void_key v type void = ap (place_key v) (void_is type void) ∙ ap key_or_object (no_key v)
+void_key v type void =
+    let leaf = void_leaf type.leaf (and_parts (type.depth == 0) (is_void_leaf type.leaf) void).1 in
+    ap (λ l. key_or_object (in_arrays type.depth (leaf_of v l))) leaf
 
-no_return : (a : Again) (first type : SigType) → is_void first ≡ true → type ≡ Void → IsReturnAgain a first type
+no_return : (a : Again) (first type : SigType) → is_void first ≡ true → type ≡ plain_type Void → IsReturnAgain a first type
 no_return a first type void is =
-    let also : is_void type ≡ true = ap is_void is ∙ void_rolled open'.Void Void rolls-Void in
+    let also : is_void type ≡ true = ap is_void is in
     record {
       key = void_key a.v type also ∙ sym (ap (key_for a) (void_key a.first first void));
       place = cond-true (is_void type) None (Some (place_of_type a.v (keys_for a a.reads.keys) type)) also ∙ sym (cond-true (is_void first) None (Some (place_of_type a.first a.reads.keys first)) void);

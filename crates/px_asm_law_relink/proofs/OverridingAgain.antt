@@ -9,7 +9,7 @@ use Rattle.std.proofs.lemmas.Option.{get_or_from_slice_get, same_Some, slice_get
 use Rattle.std.proofs.lemmas.Slice.Zip.{AllZip-long}
 use Rattle.px_link.specs.Layout.{AreInRowOrder, IsLayout, IsSlot, Nearest, Nothing, OverridesAmong, number_among, row_of, row_of_key, type_row}
 use Rattle.px_link.specs.Link.{starts_of}
-use Rattle.px_link.specs.Overrides.{AreOverrides, first_of, nearest, or_later, pair_of, pairs_of}
+use Rattle.px_link.specs.Overrides.{AreOverrides, first_of, in_order, nearest, or_later, pair_of, pairs_of}
 use Rattle.px_link.proofs.Finding.{item_at}
 use Rattle.px_link.proofs.LinkedBases.{all_apart, number_at}
 use Rattle.px_link_methods.proofs.RowPlaces.{at_place_of, each_in, found_in, in_at, in_filter, one_of_each, place_at_once, place_below, zip_at}
@@ -29,8 +29,9 @@ use Rattle.px_link_types.specs.declared.key.Leaf.{Leaf}
 use Rattle.px_link_types.specs.declared.key.Leaf.TheVariants.{Number, Library, Defined}
 use Rattle.px_asm_law_relink.specs.Again.{Again, first_numbers, key_for, keys_for, leaf_for, method_for, methods_for, numbers_for, type_for}
 use Rattle.px_asm_law_relink.proofs.OverridingBoth.{comes_from, here_too, leads_on, nearest_among, said_again, there_too, through_may}
-use Rattle.px_asm_law_relink.proofs.OverridingLists.{all_kept, each_mapped, found_mapped, joined_mapped, kept_passes, mapped_there, pairs_mapped, rises_by_place, same_place, same_test}
+use Rattle.px_asm_law_relink.proofs.OverridingLists.{all_kept, each_mapped, found_mapped, joined_mapped, kept_mapped, kept_passes, mapped_there, pairs_mapped, rises_by_place, same_place, same_test}
 use Rattle.px_asm_law_relink.proofs.OverridingOrder.{before_again}
+use Rattle.px_asm_law_relink.proofs.ReachedMaps.{in_for}
 use Rattle.px_asm_law_relink.proofs.Standing.{IsReachedRow, all_stand, method_stands, methods_apart}
 use Rattle.px_asm_law_relink.proofs.TypesAgain.{IsMet, base_met, chain_again, types_apart}
 
@@ -105,6 +106,19 @@ overriders_again a target named =
 
 -- OVERRIDES
 
+-- the methods that a `callvirt` names, in the order of their numbers
+abbrev pub targets_of : Again → List ℕ
+targets_of a = in_order a.reads.reached.rows a.reads.reached.virtual_targets
+
+-- they stand in the same order in the other assembly
+pub targets_again : (a : Again) → in_order (methods_for a a.reads.reached.rows) (methods_for a a.reads.reached.virtual_targets) ≡ methods_for a (targets_of a)
+targets_again a =
+    let rows = a.reads.reached.rows in
+    let targets = a.reads.reached.virtual_targets in
+    let reached = each_in (IsReachedRow a) targets (λ target named. (overriders_met a.reads.is_reached target named).0) in
+    kept_mapped (method_for a) (is_in targets) (is_in (methods_for a targets)) rows
+    (each_in (λ row. is_in (methods_for a targets) (method_for a row) ≡ is_in targets row) rows (λ row there. in_for a targets row reached there))
+
 or_later_mapped : (f : ℕ → ℕ) (first later : Option ℕ) → or_later (option_map f first) (option_map f later) ≡ option_map f (or_later first later)
 or_later_mapped f None later = refl
 or_later_mapped f (Some row) later = refl
@@ -155,16 +169,17 @@ module _ (a : Again) where
   pair_again target (Some row) reached there = let one = number_again target reached in let other = number_again row (there row refl) in cc
 
   pairs_again : (types : List ℕ) → AllByRecursion (IsMet a) types
-      → pairs_of a.v (numbers_for a) (lists_for a) (methods_for a a.reads.reached.virtual_targets) (map (type_for a) types) ≡ pairs_of a.first (first_numbers a) a.reads.lists a.reads.reached.virtual_targets types
+      → pairs_of a.v (numbers_for a) (lists_for a) (methods_for a (targets_of a)) (map (type_for a) types) ≡ pairs_of a.first (first_numbers a) a.reads.lists (targets_of a) types
   pairs_again types met =
-      let targets = a.reads.reached.virtual_targets in
+      let targets = targets_of a in
       let lists = a.reads.lists in
       joined_mapped (method_for a)
       (λ target. pair_of (first_numbers a) target (nearest a.first types (overriders_in lists target)))
       (λ target. pair_of (numbers_for a) target (nearest a.v (map (type_for a) types) (overriders_in (lists_for a) target)))
       targets
       (each_in (λ target. pair_of (numbers_for a) (method_for a target) (nearest a.v (map (type_for a) types) (overriders_in (lists_for a) (method_for a target))) ≡ pair_of (first_numbers a) target (nearest a.first types (overriders_in lists target))) targets
-      (λ target named.
+      (λ target kept.
+      let named = (kept_passes (is_in a.reads.reached.virtual_targets) a.reads.reached.rows target kept).0 in
       let all = overriders_met a.reads.is_reached target named in
       let overriders = overriders_in lists target in
       ap (λ l. pair_of (numbers_for a) (method_for a target) (nearest a.v (map (type_for a) types) l)) (overriders_again a target named)
@@ -173,8 +188,8 @@ module _ (a : Again) where
 
 -- the methods that take the place of others in a type
 pub overrides_again : (a : Again) (depth : ℕ) (leaf : Leaf) (pairs : List (ℕ × ℕ)) → has_key a.reads.keys (record { depth = depth; leaf = leaf }) ≡ true
-    → AreOverrides a.first (first_numbers a) a.reads.lists a.reads.reached.virtual_targets depth leaf pairs
-    → AreOverrides a.v (numbers_for a) (lists_for a) (methods_for a a.reads.reached.virtual_targets) depth (leaf_for a leaf) pairs
+    → AreOverrides a.first (first_numbers a) a.reads.lists (targets_of a) depth leaf pairs
+    → AreOverrides a.v (numbers_for a) (lists_for a) (methods_for a (targets_of a)) depth (leaf_for a leaf) pairs
 overrides_again a zero (Number integer) pairs has are = are
 overrides_again a zero (Library number) pairs has are = are
 overrides_again a zero (Defined type) pairs has are = record {

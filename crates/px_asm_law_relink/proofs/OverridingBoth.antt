@@ -20,7 +20,7 @@ use Rattle.px_sig.specs.declared.sig.MethodSig.{MethodSig}
 use Rattle.px_tables.specs.Metadata.{View}
 use Rattle.px_asm_law_relink.specs.Again.{Again, first_numbers, method_for, type_for}
 use Rattle.px_asm_described.specs.Describes.{IsImpl, method_row}
-use Rattle.px_asm_law_relink.proofs.OverridingTypes.{arguments_are, one_sig}
+use Rattle.px_asm_law_relink.proofs.OverridingTypes.{one_sig}
 use Rattle.px_asm_law_relink.proofs.Standing.{IsReachedRow, method_stands, methods_apart}
 use Rattle.px_asm_law_relink.proofs.TypesAgain.{derives_again}
 
@@ -85,9 +85,7 @@ module _ (a : Again) where
       let static : one.method.is_static ≡ false = one.is_method.is_static ∙ ap not this in
       let one_spelling : one.is.sig ≡ two.is.sig =
       one_sig a one.method two.method one.is.sig two.is.sig (static ∙ sym (two.is_method.is_static ∙ ap not other_this))
-      (arguments_are a.first numbers method one.whole one.method one.is_method this
-      ∙ ap (λ (s : MethodSig). map (place_of_type a.first numbers.keys) s.params) level
-      ∙ sym (arguments_are a.first numbers other two.whole two.method two.is_method other_this))
+      (one.is_method.params ∙ ap (λ (s : MethodSig). map (place_of_type a.first numbers.keys) s.params) level ∙ sym two.is_method.params)
       (one.is_method.ret ∙ ap (λ (s : MethodSig). return_place a.first numbers.keys s.ret) level ∙ sym two.is_method.ret)
       one.is.sig_is two.is.sig_is in
       record {

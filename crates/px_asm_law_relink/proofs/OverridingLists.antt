@@ -85,6 +85,17 @@ pub found_mapped : (f : ℕ → ℕ) (p q : ℕ → Bool) (xs : List ℕ) → Al
 found_mapped f p q [] same = refl
 found_mapped f p q (x ∷ xs) same = found_by f x (find q (map f xs)) (find p xs) (q (f x)) (p x) same.0 (found_mapped f p q xs same.1)
 
+-- what is kept where the test is the same
+kept_by : (f : ℕ → ℕ) (x : ℕ) (rest now : List ℕ) (passes is : Bool) → passes ≡ is → rest ≡ map f now → (if passes then f x ∷ rest else rest) ≡ map f (if is then x ∷ now else now)
+kept_by f x rest now true true e same = ap (λ l. f x ∷ l) same
+kept_by f x rest now false false e same = same
+kept_by f x rest now true false e same = absurd (cc)
+kept_by f x rest now false true e same = absurd (cc)
+
+pub kept_mapped : (f : ℕ → ℕ) (p q : ℕ → Bool) (xs : List ℕ) → AllByRecursion (λ x. q (f x) ≡ p x) xs → filter q (map f xs) ≡ map f (filter p xs)
+kept_mapped f p q [] same = refl
+kept_mapped f p q (x ∷ xs) same = kept_by f x (filter q (map f xs)) (filter p xs) (q (f x)) (p x) same.0 (kept_mapped f p q xs same.1)
+
 -- lists joined along what stands for rows
 pub joined_mapped : {Y : Type 0} (f : ℕ → ℕ) (one other : ℕ → List Y) (xs : List ℕ) → AllByRecursion (λ x. other (f x) ≡ one x) xs → flat_map other (map f xs) ≡ flat_map one xs
 joined_mapped f one other [] same = refl

@@ -1,5 +1,5 @@
 -- Methods come before each other in the other assembly as they did in the first.
-use Rattle.std.proofs.Common.{◌≡◌, ℕ, ◌<◌, List, [], ◌∷◌, Option, refl, sym, ap, ◌∙◌, subst}
+use Rattle.std.proofs.Common.{◌≡◌, ℕ, ◌<◌, List, [], sym, ap, ◌∙◌, subst}
 use Rattle.std.specs.Cmp.Lexicographic.{slice_cmp}
 use Rattle.std.specs.Ordering.{MatchOrdering, nat_cmp}
 use Rattle.std.specs.declared.cmp.Ordering.{Ordering}
@@ -7,13 +7,12 @@ use Rattle.std.specs.declared.cmp.Ordering.TheVariants.{Less, Equal, Greater}
 use Rattle.std.proofs.lemmas.Option.{same_Some}
 use Rattle.px_link.proofs.LinkedProgram.{owner_defined}
 use Rattle.px_link.proofs.OneName.{one_name}
-use Rattle.px_meta.specs.Chains.{Ends, GoesOn, IsChain}
-use Rattle.px_meta.specs.FullNames.{IsTypeName, type_name}
+use Rattle.px_meta.specs.Chains.{Ends}
+use Rattle.px_meta.specs.FullNames.{IsTypeName}
 use Rattle.px_meta.specs.Members.{owner_of}
 use Rattle.px_meta.specs.Rows.{methods}
 use Rattle.px_program.specs.declared.program.TypeInfo.{TypeInfo}
 use Rattle.px_link_reach.specs.Overriders.{IsBefore}
-use Rattle.px_tables.specs.Metadata.{View}
 use Rattle.px_asm_law_relink.specs.Again.{Again, method_for, type_for}
 use Rattle.px_asm_law_relink.proofs.Standing.{IsReachedRow, method_stands, methods_rise}
 use Rattle.px_asm_law_relink.proofs.TypesAgain.{type_stands}

@@ -1,27 +1,22 @@
 -- What a place holds is spelled in one way.
-use Rattle.std.proofs.Common.{◌≡◌, ℕ, Bool, true, List, [], ◌∷◌, ◌++◌, drop, map, Option, Some, None, refl, sym, ap, ◌∙◌, subst}
+use Rattle.std.proofs.Common.{◌≡◌, ℕ, Bool, List, [], ◌∷◌, ◌++◌, Option, Some, None, refl, sym, ap, ◌∙◌, subst}
 use Rattle.std.specs.Prelude.{◌≢◌, not, slice_get}
 use Rattle.std.specs.List.{AllZip}
-use Rattle.std.proofs.lemmas.Bool.{cond-false}
 use Rattle.std.proofs.lemmas.Option.{same_Some}
 use Rattle.px_link.proofs.LinkedProgram.{has_numbered}
 use Rattle.px_link.proofs.LinkedTypes.{HaveTypes, StandsFor}
-use Rattle.px_link_methods.specs.Codes.{Numbering}
-use Rattle.px_link_methods.specs.Methods.{IsMethod, place_of_type, receiver}
-use Rattle.px_meta.specs.Members.{owner_of}
-use Rattle.px_meta.specs.Rows.{methods}
 use Rattle.px_program.specs.Library.{library_types}
 use Rattle.px_program.specs.declared.program.Method.{Method}
 use Rattle.px_program.specs.declared.program.Place.{Place}
 use Rattle.px_program.specs.declared.program.Place.TheVariants as places
 use Rattle.px_program.specs.declared.program.Program.{Program}
 use Rattle.px_program.specs.declared.program.TypeInfo.{TypeInfo}
-use Rattle.px_link_reach.specs.declared.body.Whole.{Whole}
 use Rattle.px_sig.specs.declared.sig.Integer.{Integer}
 use Rattle.px_sig.specs.declared.sig.Integer.TheVariants as integers
 use Rattle.px_sig.specs.declared.sig.MethodSig.{MethodSig}
-use Rattle.px_sig.specs.declared.sig.SigType.{SigType, Array, Class, Int, Object, Str}
-use Rattle.px_tables.specs.Metadata.{View}
+use Rattle.px_sig.specs.Grammar.{array_of, plain_type}
+use Rattle.px_sig.specs.declared.sig.SigLeaf.TheVariants.{Class, Int, Object, Str}
+use Rattle.px_sig.specs.declared.sig.SigType.{SigType}
 use Rattle.px_link_types.specs.Keys.{alone}
 use Rattle.px_link_types.specs.Numbers.{integer_place, library_keys}
 use Rattle.px_link_types.specs.declared.key.Key.{Key}
@@ -29,7 +24,6 @@ use Rattle.px_link_types.specs.declared.key.Leaf.TheVariants.{Library}
 use Rattle.px_link_types.proofs.Closed.{grows}
 use Rattle.px_asm_law_relink.specs.Again.{Again}
 use Rattle.px_asm_described.specs.Describes.{HasElement, IsArray, IsClass, IsNumber, IsObject, IsOther, IsReturnOf, IsSigOf, IsText, IsTypeOf, class_token}
-use Rattle.px_program.specs.Formed.{explicit_params}
 
 -- INTEGERS
 
@@ -91,26 +85,26 @@ same_number : (type other : ℕ) → places.Ref type ≡ places.Ref other → ty
 same_number type other same = cc
 
 module _ (p : Program) (no_object : IsNoArray p 0) (no_text : IsNoArray p 17) where
-  as_number : (integer : Integer) (place : Place) (type second : SigType) → place ≡ integer_place integer → type ≡ Int integer → IsTypeOf p place second → type ≡ second
-  as_number integer place type second at is (IsNumber i _ _ at' is') = is ∙ ap (λ n. Int n) (same_integer integer i (sym at ∙ at')) ∙ sym is'
+  as_number : (integer : Integer) (place : Place) (type second : SigType) → place ≡ integer_place integer → type ≡ plain_type (Int integer) → IsTypeOf p place second → type ≡ second
+  as_number integer place type second at is (IsNumber i _ _ at' is') = is ∙ ap (λ n. plain_type (Int n)) (same_integer integer i (sym at ∙ at')) ∙ sym is'
   as_number integer place type second at is (IsObject _ _ at' is') = absurd (no_reference integer 0 (sym at ∙ at'))
   as_number integer place type second at is (IsText _ _ at' is') = absurd (no_reference integer 17 (sym at ∙ at'))
   as_number integer place type second at is (IsOther class _ _ _ _ _ at' is') = absurd (no_reference integer class (sym at ∙ at'))
   as_number integer place type second at is (IsArray array _ _ _ _ _ _ at' is') = absurd (no_reference integer array (sym at ∙ at'))
 
-  as_reference : (number : ℕ) (place : Place) (type second : SigType) → ((element : Place) → HasElement p number element → ⊥) → place ≡ places.Ref number → (number ≡ 0 → second ≡ Object → type ≡ second) → (number ≡ 17 → second ≡ Str → type ≡ second)
-      → (number ≢ 0 → number ≢ 17 → second ≡ Class (class_token p number) → type ≡ second) → IsTypeOf p place second → type ≡ second
+  as_reference : (number : ℕ) (place : Place) (type second : SigType) → ((element : Place) → HasElement p number element → ⊥) → place ≡ places.Ref number → (number ≡ 0 → second ≡ plain_type Object → type ≡ second) → (number ≡ 17 → second ≡ plain_type Str → type ≡ second)
+      → (number ≢ 0 → number ≢ 17 → second ≡ plain_type (Class (class_token p number)) → type ≡ second) → IsTypeOf p place second → type ≡ second
   as_reference number place type second no_array at object text rest (IsNumber i _ _ at' is') = absurd (no_reference i number (sym at' ∙ at))
   as_reference number place type second no_array at object text rest (IsObject _ _ at' is') = object (same_number number 0 (sym at ∙ at')) is'
   as_reference number place type second no_array at object text rest (IsText _ _ at' is') = text (same_number number 17 (sym at ∙ at')) is'
   as_reference number place type second no_array at object text rest (IsOther class _ _ some no_text' is_class at' is') =
       let same : class ≡ number = same_number class number (sym at' ∙ at) in
-      rest (λ e. some (same ∙ e)) (λ e. no_text' (same ∙ e)) (is' ∙ ap (λ c. Class (class_token p c)) same)
+      rest (λ e. some (same ∙ e)) (λ e. no_text' (same ∙ e)) (is' ∙ ap (λ c. plain_type (Class (class_token p c))) same)
   as_reference number place type second no_array at object text rest (IsArray array element _ _ _ has _ at' is') =
       let same : array ≡ number = same_number array number (sym at' ∙ at) in
       absurd (no_array element (subst (λ n. HasElement p n element) same has))
 
-  as_array : (array : ℕ) (element place : Place) (inner type second : SigType) → HasElement p array element → ((one : SigType) → IsTypeOf p element one → inner ≡ one) → place ≡ places.Ref array → type ≡ Array inner → IsTypeOf p place second → type ≡ second
+  as_array : (array : ℕ) (element place : Place) (inner type second : SigType) → HasElement p array element → ((one : SigType) → IsTypeOf p element one → inner ≡ one) → place ≡ places.Ref array → type ≡ array_of inner → IsTypeOf p place second → type ≡ second
   as_array array element place inner type second has same_inner at is (IsNumber i _ _ at' is') = absurd (no_reference i array (sym at' ∙ at))
   as_array array element place inner type second has same_inner at is (IsObject _ _ at' is') = absurd (no_object element (subst (λ n. HasElement p n element) (same_number array 0 (sym at ∙ at')) has))
   as_array array element place inner type second has same_inner at is (IsText _ _ at' is') = absurd (no_text element (subst (λ n. HasElement p n element) (same_number array 17 (sym at ∙ at')) has))
@@ -119,7 +113,7 @@ module _ (p : Program) (no_object : IsNoArray p 0) (no_text : IsNoArray p 17) wh
   as_array array element place inner type second has same_inner at is (IsArray array' element' _ inner' _ has' inner_is at' is') =
       let same : array' ≡ array = same_number array' array (sym at' ∙ at) in
       let level : element' ≡ element = same_element p array element' element (subst (λ n. HasElement p n element') same has') has in
-      is ∙ ap (λ t. Array t) (same_inner inner' (subst (λ e. IsTypeOf p e inner') level inner_is)) ∙ sym is'
+      is ∙ ap array_of (same_inner inner' (subst (λ e. IsTypeOf p e inner') level inner_is)) ∙ sym is'
 
   -- a place has one type
   pub one_type : (place : Place) (type second : SigType) → IsTypeOf p place type → IsTypeOf p place second → type ≡ second
@@ -174,16 +168,10 @@ no_text a = no_elements a 17 _ (λ more. refl) refl refl
 
 -- SIGNATURES
 
--- what an instance method takes beside its receiver
-pub arguments_are : (v : View) (n : Numbering) (row : ℕ) (whole : Whole) (method : Method) → (is : IsMethod v n row whole method) → is.sig.has_this ≡ true → explicit_params method ≡ map (place_of_type v n.keys) is.sig.params
-arguments_are v n row whole method is this =
-    cond-false method.is_static method.params (drop 1 method.params) (is.is_static ∙ ap not this)
-    ∙ ap (drop 1) (is.params ∙ ap (λ b. receiver v n.keys (owner_of v methods row) b ++ map (place_of_type v n.keys) is.sig.params) this)
-
 -- methods that take and return the same have one signature
-pub one_sig : (a : Again) (method other : Method) (sig other_sig : MethodSig) → method.is_static ≡ other.is_static → explicit_params method ≡ explicit_params other → method.ret ≡ other.ret
+pub one_sig : (a : Again) (method other : Method) (sig other_sig : MethodSig) → method.is_static ≡ other.is_static → method.params ≡ other.params → method.ret ≡ other.ret
     → IsSigOf a.p method sig → IsSigOf a.p other other_sig → sig ≡ other_sig
 one_sig a method other sig other_sig static arguments ret is is_other =
     same_parts sig other_sig (is.has_this ∙ ap not static ∙ sym is_other.has_this) (is.plain ∙ sym is_other.plain)
     (one_return a.p (no_object a) (no_text a) other.ret sig.ret other_sig.ret (subst (λ r. IsReturnOf a.p r sig.ret) ret is.ret) is_other.ret)
-    (one_list a.p (no_object a) (no_text a) (explicit_params other) sig.params other_sig.params (subst (λ l. AllZip (IsTypeOf a.p) l sig.params) arguments is.params) is_other.params)
+    (one_list a.p (no_object a) (no_text a) other.params sig.params other_sig.params (subst (λ l. AllZip (IsTypeOf a.p) l sig.params) arguments is.params) is_other.params)

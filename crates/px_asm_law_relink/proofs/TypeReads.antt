@@ -5,21 +5,20 @@ use Rattle.std.proofs.lemmas.Bool.{and_from, cond-false, cond-true, ne_eqb}
 use Rattle.std.proofs.lemmas.Bool.Decides.{nat_tests}
 use Rattle.px_meta.specs.Rows.{IsRow, count_of, some_row, type_defs, type_refs}
 use Rattle.px_meta.specs.Tokens.{row_in, table_in}
-use Rattle.px_link_tokens.specs.Operands.{key_alone, known_by, known_key}
+use Rattle.px_link_tokens.specs.Operands.{known_key, known_leaf}
 use Rattle.px_program.specs.Formed.{type_in}
 use Rattle.px_program.specs.declared.program.Place.{Place}
 use Rattle.px_program.specs.declared.program.Place.TheVariants as places
 use Rattle.px_sig.specs.declared.sig.Integer.{Integer}
 use Rattle.px_sig.specs.declared.sig.Integer.TheVariants as integers
+use Rattle.px_sig.specs.Grammar.{array_of, plain_type}
+use Rattle.px_sig.specs.declared.sig.SigLeaf.TheVariants.{Int, Str, Object, Class}
 use Rattle.px_sig.specs.declared.sig.SigType.{SigType}
-use Rattle.px_sig.specs.declared.sig.SigType.TheFolds.{fold-roll-SigType}
-use Rattle.px_sig.specs.declared.sig.SigType.TheOpen as open'
-use Rattle.px_sig.specs.declared.sig.SigType.TheVariants.{Int, Str, Object, Class, Array, rolls-Int, rolls-Str, rolls-Object, rolls-Class, rolls-Array}
 use Rattle.px_tables.specs.Metadata.{View}
 use Rattle.px_link_types.specs.declared.key.Key.{Key}
 use Rattle.px_link_types.specs.declared.key.Leaf.{Leaf}
 use Rattle.px_link_types.specs.declared.key.Leaf.TheVariants.{Number, Library, Defined}
-use Rattle.px_link_types.specs.Keys.{alone, array_in, class_of, class_or_object, defined_in, is_class, key_by, key_of, library_in, library_leaf, library_ref, object}
+use Rattle.px_link_types.specs.Keys.{alone, class_of, class_or_object, defined_in, in_arrays, is_class, key_of, leaf_of, library_in, library_leaf, library_ref, object}
 use Rattle.px_link_types.specs.Numbers.{integer_place, number_of, place_of_leaf}
 
 -- TOKENS OF CLASSES
@@ -63,40 +62,30 @@ pub record IsRead (v : View) (type : SigType) (key : Key) : Type 0 where
   pub key_is : key_of v type ≡ Some key
   pub known : known_key v type ≡ Some key
 
-pub int_read : (v : View) (integer : Integer) → IsRead v (Int integer) (alone (Number integer))
-int_read v integer = record {
-  key_is = ap (key_of v) (sym (rolls-Int integer)) ∙ fold-roll-SigType (Option Key) (key_by v) (open'.Int integer);
-  known = ap (known_key v) (sym (rolls-Int integer)) ∙ fold-roll-SigType (Option Key) (known_by v) (open'.Int integer);
-}
+pub int_read : (v : View) (integer : Integer) → IsRead v (plain_type (Int integer)) (alone (Number integer))
+int_read v integer = record { key_is = refl; known = refl }
 
-pub text_read : (v : View) → IsRead v Str (alone (Library 17))
-text_read v = record {
-  key_is = ap (key_of v) (sym rolls-Str) ∙ fold-roll-SigType (Option Key) (key_by v) open'.Str;
-  known = ap (known_key v) (sym rolls-Str) ∙ fold-roll-SigType (Option Key) (known_by v) open'.Str;
-}
+pub text_read : (v : View) → IsRead v (plain_type Str) (alone (Library 17))
+text_read v = record { key_is = refl; known = refl }
 
-pub object_read : (v : View) → IsRead v Object object
-object_read v = record {
-  key_is = ap (key_of v) (sym rolls-Object) ∙ fold-roll-SigType (Option Key) (key_by v) open'.Object;
-  known = ap (known_key v) (sym rolls-Object) ∙ fold-roll-SigType (Option Key) (known_by v) open'.Object;
-}
+pub object_read : (v : View) → IsRead v (plain_type Object) object
+object_read v = record { key_is = refl; known = refl }
 
-pub class_read : (v : View) (at : ℕ) (leaf : Leaf) → class_of v at ≡ Some leaf → IsRead v (Class at) (alone leaf)
-class_read v at leaf is = record {
-  key_is = ap (key_of v) (sym (rolls-Class at)) ∙ fold-roll-SigType (Option Key) (key_by v) (open'.Class at) ∙ ap (λ o. Some (alone (class_or_object o))) is;
-  known = ap (known_key v) (sym (rolls-Class at)) ∙ fold-roll-SigType (Option Key) (known_by v) (open'.Class at) ∙ ap key_alone is;
-}
+pub class_read : (v : View) (at : ℕ) (leaf : Leaf) → class_of v at ≡ Some leaf → IsRead v (plain_type (Class at)) (alone leaf)
+class_read v at leaf is = record { key_is = ap (λ o. Some (alone (class_or_object o))) is; known = ap (in_arrays 0) is }
 
-one_deeper : (depth : ℕ) (leaf : Leaf) → suc depth < 2 ^ 32 → array_in (Some (record { depth = depth; leaf = leaf })) ≡ Some (record { depth = suc depth; leaf = leaf })
-one_deeper depth leaf less =
-    let one : depth + 1 ≡ suc depth = omega arith in
-    cond-true (nat_lt (depth + 1) (2 ^ 32)) (Some (record { depth = depth + 1; leaf = leaf })) None (less_test (depth + 1) (2 ^ 32) (omega arith))
-    ∙ ap (λ d. Some (record { depth = d; leaf = leaf })) one
+abbrev one_more : Option Key → Option Key
+one_more None = None
+one_more (Some key) = Some (record { depth = suc key.depth; leaf = key.leaf })
 
-pub array_read : (v : View) (inner : SigType) (depth : ℕ) (leaf : Leaf) → suc depth < 2 ^ 32 → IsRead v inner (record { depth = depth; leaf = leaf }) → IsRead v (Array inner) (record { depth = suc depth; leaf = leaf })
-array_read v inner depth leaf less is = record {
-  key_is = ap (key_of v) (sym (rolls-Array inner)) ∙ fold-roll-SigType (Option Key) (key_by v) (open'.Array inner) ∙ ap array_in is.key_is ∙ one_deeper depth leaf less;
-  known = ap (known_key v) (sym (rolls-Array inner)) ∙ fold-roll-SigType (Option Key) (known_by v) (open'.Array inner) ∙ ap array_in is.known ∙ one_deeper depth leaf less;
+deeper : (depth : ℕ) (leaf : Option Leaf) → in_arrays (suc depth) leaf ≡ one_more (in_arrays depth leaf)
+deeper depth None = refl
+deeper depth (Some leaf) = refl
+
+pub array_read : (v : View) (inner : SigType) (depth : ℕ) (leaf : Leaf) → IsRead v inner (record { depth = depth; leaf = leaf }) → IsRead v (array_of inner) (record { depth = suc depth; leaf = leaf })
+array_read v inner depth leaf is = record {
+  key_is = deeper inner.depth (leaf_of v inner.leaf) ∙ ap one_more is.key_is;
+  known = deeper inner.depth (known_leaf v inner.leaf) ∙ ap one_more is.known;
 }
 
 -- PLACES

@@ -9,6 +9,7 @@ use Rattle.px_link.proofs.LinkedBases.{all_apart, number_at}
 use Rattle.px_link.proofs.LinkedTypes.{HasDefined, HaveTypes, StandsFor, defined_type, have_types}
 use Rattle.px_link_methods.proofs.RowPlaces.{at_place_of, each_in, place_below}
 use Rattle.px_link.specs.Layout.{row_of_key}
+use Rattle.px_link.specs.Overrides.{in_order}
 use Rattle.px_meta.specs.Chains.{IsChain, base_in, Ends as ChainEnds, GoesOn}
 use Rattle.px_meta.specs.FullNames.{own_name}
 use Rattle.px_meta.specs.Overriding.{Derives, Directly, Through}
@@ -24,15 +25,17 @@ use Rattle.px_program.specs.declared.program.Place.{Place}
 use Rattle.px_program.specs.declared.program.Place.TheVariants as places
 use Rattle.px_program.specs.declared.program.TypeInfo.{TypeInfo}
 use Rattle.px_link_reach.specs.Met.{IsOwned}
-use Rattle.px_sig.specs.declared.sig.SigType.{SigType, Int, Class, Array}
+use Rattle.px_sig.specs.Grammar.{array_of as type_array, plain_type}
+use Rattle.px_sig.specs.declared.sig.SigLeaf.TheVariants.{Int, Class}
+use Rattle.px_sig.specs.declared.sig.SigType.{SigType}
 use Rattle.px_link_types.proofs.Closed.{each_numbered, grows, each-back, each-front}
 use Rattle.px_link_types.proofs.Formed.{has_by}
 use Rattle.px_link_types.proofs.Keyed.{at_number}
 use Rattle.px_link_types.proofs.Known.{are_known, has_at, library_at, known_at}
 use Rattle.px_link_types.proofs.Places.{IsOwned as HasOwn, owned}
-use Rattle.px_link_types.proofs.There.{IsBaseLeaf, base_leaf_there}
+use Rattle.px_link_types.proofs.There.{IsBaseLeaf, base_leaf_there, own_there}
 use Rattle.px_link_types.specs.Infos.{AreInfos, IsInfoOf, number_in, IsDefined}
-use Rattle.px_link_types.specs.Keys.{alone, class_of, key_of, base_index, key_or_object}
+use Rattle.px_link_types.specs.Keys.{IsKey, alone, class_of, key_of, base_index, key_or_object}
 use Rattle.px_link_types.specs.Making.{AreKnown, AreNumberedIn}
 use Rattle.px_link_types.specs.Numbers.{Numbers, has_key, is_integer, is_integer_leaf, is_numbered, library_keys, number_of, own_types, place_in, place_of_leaf, base_leaf, field_key, instance_fields, leaf_keys, own_of_key, read_key, static_fields, Ends, Meets, Passes}
 use Rattle.px_link_types.specs.declared.key.Key.{Key}
@@ -40,7 +43,7 @@ use Rattle.px_link_types.specs.declared.key.Leaf.{Leaf}
 use Rattle.px_link_types.specs.declared.key.Leaf.TheVariants.{Number, Library, Defined}
 use Rattle.px_asm_law_relink.proofs.TypeBases.{base_defined, base_is, base_library, base_none, no_base}
 use Rattle.px_asm_law_relink.proofs.TypeKeys.{each_has, each_own, has_map, key_by_parts, number_map, number_past, none_map}
-use Rattle.px_asm_law_relink.proofs.TypeMet.{IsFit, fit_keys, library_fit_all, met_fit, own_fit}
+use Rattle.px_asm_law_relink.proofs.TypeMet.{library_keys_there, met_there}
 use Rattle.px_asm_law_relink.proofs.TypeOwned.{reached_owned}
 use Rattle.px_asm_law_relink.proofs.TypeReads.{IsRead, array_read, class_read, defined_class, int_read, integer_key, less_test, library_class, more_test, no_integer_place, object_read, text_read}
 use Rattle.px_asm_law_relink.specs.Again.{Again, first_numbers, key_for, keys_for, leaf_for, type_for}
@@ -60,7 +63,7 @@ pub record HasTypeFor (a : Again) (row : ℕ) : Type 0 where
 
 -- the types of the program are those of the keys
 pub have_all : (a : Again) → HaveTypes a.first a.reads.keys a.p.types
-have_all a = have_types a.first (first_numbers a) a.reads.lists a.reads.reached.virtual_targets a.p.types a.reads.types
+have_all a = have_types a.first (first_numbers a) a.reads.lists (in_order a.reads.reached.rows a.reads.reached.virtual_targets) a.p.types a.reads.types
 
 pub type_has : (a : Again) (row : ℕ) → IsMet a row → HasDefined a.first a.reads.keys a.p.types row
 type_has a row met = defined_type a.first a.reads.keys a.p.types (have_all a) row met
@@ -112,23 +115,17 @@ types_apart a row other met other_met same =
 -- NUMBERS
 
 -- the types that the first assembly's methods meet, and all that have numbers
-pub met_is_fit : (a : Again) → AllByRecursion (IsFit a.first) (met_by_all a.first a.reads.reached.rows a.reads.reached.bodies)
-met_is_fit a = met_fit a.first a.reads.reached.rows a.reads.reached.bodies (each_in (IsOwned a.first) a.reads.reached.rows (reached_owned a.reads))
+pub met_are_there : (a : Again) → AllByRecursion (IsKey a.first) (met_by_all a.first a.reads.reached.rows a.reads.reached.bodies)
+met_are_there a = met_there a.first a.reads.reached.rows a.reads.reached.bodies (each_in (IsOwned a.first) a.reads.reached.rows (reached_owned a.reads))
 
-pub all_fit : (a : Again) → AllByRecursion (IsFit a.first) a.reads.keys
-all_fit a = each_numbered (IsFit a.first) (own_fit a.first a.sound) a.reads.numbers (library_fit_all a.first) (met_is_fit a)
+pub all_there : (a : Again) → AllByRecursion (IsKey a.first) a.reads.keys
+all_there a = each_numbered (IsKey a.first) (own_there a.first a.sound) a.reads.numbers (library_keys_there a.first) (met_are_there a)
 
 pub all_known : (a : Again) → AreKnown a.first a.reads.keys
-all_known a =
-    let met = met_by_all a.first a.reads.reached.rows a.reads.reached.bodies in
-    are_known a.first met a.reads.keys a.sound a.reads.numbers (fit_keys a.first met (met_is_fit a))
-
--- a key with a number is there, and lies in few arrays
-pub key_is_fit : (a : Again) (key : Key) → has_key a.reads.keys key ≡ true → IsFit a.first key
-key_is_fit a key has = each_at (IsFit a.first) a.reads.keys (all_fit a) (number_of a.reads.keys key) key (at_number a.reads.keys key has)
+all_known a = are_known a.first (met_by_all a.first a.reads.reached.rows a.reads.reached.bodies) a.reads.keys a.sound a.reads.numbers (met_are_there a)
 
 pub row_there : (a : Again) (row : ℕ) → IsMet a row → IsRow a.first type_defs row
-row_there a row met = (key_is_fit a (alone (Defined row)) met).there
+row_there a row met = each_at (IsKey a.first) a.reads.keys (all_there a) (number_of a.reads.keys (alone (Defined row))) (alone (Defined row)) (at_number a.reads.keys (alone (Defined row)) met)
 
 abbrev Has : Again → Key → Type 0
 Has a key = has_key a.reads.keys key ≡ true
@@ -234,7 +231,7 @@ library_reads a type key number less at is =
 
 -- a class, by what its number stands for
 class_reads : (a : Again) (class depth : ℕ) (leaf : Leaf) (bare : TypeInfo) → slice_get a.reads.keys class ≡ Some (record { depth = depth; leaf = leaf }) → IsInfoOf a.first a.reads.keys depth leaf bare → bare.element ≡ None
-    → IsRead a.v (Class (class_token a.p class)) (record { depth = depth; leaf = leaf_for a leaf })
+    → IsRead a.v (plain_type (Class (class_token a.p class))) (record { depth = depth; leaf = leaf_for a leaf })
 class_reads a class zero (Number integer) bare at info none = absurd info
 class_reads a class zero (Library number) bare at info none =
     let less : number < 18 = slice_get_within library_types number bare info in
@@ -260,7 +257,7 @@ library_no_arrays = search rules
 -- an array, by what its number stands for
 array_reads : (a : Again) (array depth : ℕ) (leaf : Leaf) (bare : TypeInfo) (element : Place) (inner : SigType) → slice_get a.reads.keys array ≡ Some (record { depth = depth; leaf = leaf })
     → IsInfoOf a.first a.reads.keys depth leaf bare → bare.element ≡ Some element
-    → ((key : Key) → is_numbered a.reads.keys key ≡ true → element ≡ place_in a.reads.keys key → ReadsAs a key inner) → IsRead a.v (Array inner) (record { depth = depth; leaf = leaf_for a leaf })
+    → ((key : Key) → is_numbered a.reads.keys key ≡ true → element ≡ place_in a.reads.keys key → ReadsAs a key inner) → IsRead a.v (type_array inner) (record { depth = depth; leaf = leaf_for a leaf })
 array_reads a array zero (Number integer) bare element inner at info some reads = absurd info
 array_reads a array zero (Library number) bare element inner at info some reads = absurd (let none = each_at (λ (i : TypeInfo). i.element ≡ None) library_types library_no_arrays number bare info in cc)
 array_reads a array zero (Defined row) bare element inner at info some reads = absurd (let none = info.element in cc)
@@ -269,7 +266,7 @@ array_reads a array (suc depth) leaf bare element inner at info some reads =
     let own = own_numbered a (record { depth = suc depth; leaf = leaf }) has in
     let place : element ≡ place_of_leaf a.reads.keys depth leaf = same_Some element (place_of_leaf a.reads.keys depth leaf) (sym some ∙ ap (λ (i : TypeInfo). i.element) info) in
     let inner_reads = reads (record { depth = depth; leaf = leaf }) own.0 place in
-    array_read a.v inner depth (leaf_for a leaf) (key_is_fit a (record { depth = suc depth; leaf = leaf }) has).shallow (record { key_is = inner_reads.key_is; known = inner_reads.known })
+    array_read a.v inner depth (leaf_for a leaf) (record { key_is = inner_reads.key_is; known = inner_reads.known })
 
 -- what the program says of the type that a key stands for
 stands_for : (a : Again) (type : ℕ) (key : Key) (info : TypeInfo) → slice_get a.reads.keys type ≡ Some key → slice_get a.p.types type ≡ Some info → StandsFor a.first a.reads.keys key info
@@ -278,7 +275,7 @@ stands_for a type key info at there = (have_all a).each type key info at there
 pub type_reads : (a : Again) (key : Key) (place : Place) (type : SigType) → is_numbered a.reads.keys key ≡ true → place ≡ place_in a.reads.keys key → IsTypeOf a.p place type → ReadsAs a key type
 type_reads a key place type numbered place_is (IsNumber integer _ _ p t) =
     let same : key ≡ alone (Number integer) = integer_key a.reads.keys key.depth key.leaf integer (sym place_is ∙ p) in
-    subst (λ k. ReadsAs a k type) (sym same) (subst (λ ty. ReadsAs a (alone (Number integer)) ty) (sym t) (read_as a (alone (Number integer)) (Int integer) (int_read a.v integer)))
+    subst (λ k. ReadsAs a k type) (sym same) (subst (λ ty. ReadsAs a (alone (Number integer)) ty) (sym t) (read_as a (alone (Number integer)) (plain_type (Int integer)) (int_read a.v integer)))
 type_reads a key place type numbered place_is (IsObject _ _ p t) =
     library_reads a type key 0 (omega arith) (key_at_ref a 0 key.depth key.leaf numbered (sym p ∙ place_is)) (subst (λ ty. IsRead a.v ty (alone (Library 0))) (sym t) (object_read a.v))
 type_reads a key place type numbered place_is (IsText _ _ p t) =

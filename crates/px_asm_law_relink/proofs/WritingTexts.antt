@@ -1,13 +1,12 @@
 -- The names in an assembly whose rows have no fault are texts.
-use Rattle.std.proofs.Common.{◌≡◌, ◌≢◌, ℕ, zero, suc, true, false, List, [], ◌∷◌, ◌++◌, ◌<◌, Option, Some, None, refl, sym, ap, ◌∙◌, subst, ⊎_elim, arith}
+use Rattle.std.proofs.Common.{◌≡◌, ◌≢◌, ℕ, zero, suc, true, false, List, [], ◌∷◌, ◌++◌, ◌<◌, Option, Some, None, sym, ap, ◌∙◌, subst, ⊎_elim, arith}
 use Rattle.std.specs.Prelude.{All, IfSome, codes, slice_index}
 use Rattle.std.specs.Str.{is_utf8}
 use Rattle.std.proofs.lemmas.Bool.{cases_Bool}
 use Rattle.std.proofs.lemmas.List.Elements.{All-append, All-cons, All-nil}
-use Rattle.std.proofs.lemmas.Option.{same_Some}
 use Rattle.std.proofs.lemmas.Str.{IsUtf8-append, IsUtf8-from_ascii, IsUtf8-from_is_utf8, is_utf8-from_IsUtf8}
 use Rattle.px_meta.proofs.Alike.{text_is}
-use Rattle.px_meta.specs.Chains.{IsChain, Ends, GoesOn, encloser, nesting_in, outer_of}
+use Rattle.px_meta.specs.Chains.{IsChain, GoesOn, encloser, nesting_in, outer_of}
 use Rattle.px_meta.specs.Faults.{IsFaultless, Method, TypeDef}
 use Rattle.px_meta.specs.FullNames.{IsTypeName, own_name, type_name, with_namespace}
 use Rattle.px_meta.specs.Rows.{IsReadable, IsRow, cell, methods, nested_classes, rows_in, text_at, type_defs}

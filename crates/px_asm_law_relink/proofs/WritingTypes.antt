@@ -10,6 +10,7 @@ use Rattle.px_link.proofs.LinkedProgram.{numbering_of}
 use Rattle.px_link.proofs.LinkedTypes.{HaveTypes, StandsFor, defined_type, have_types}
 use Rattle.px_link_methods.proofs.RowPlaces.{each_in, one_of_each}
 use Rattle.px_link.specs.Layout.{row_of, row_of_key, type_row}
+use Rattle.px_link.specs.Overrides.{in_order}
 use Rattle.px_meta.specs.Rows.{IsRow, is_in, type_defs}
 use Rattle.px_link_methods.specs.Methods.{met_by_all}
 use Rattle.px_program.proofs.Types.{each_at}
@@ -23,16 +24,16 @@ use Rattle.px_link_types.proofs.Closed.{each-front, each_numbered, grows}
 use Rattle.px_link_types.proofs.Formed.{at_place, has_by}
 use Rattle.px_link_types.proofs.Keyed.{at_number}
 use Rattle.px_link_types.proofs.Known.{are_known, has_at, library_at}
-use Rattle.px_link_types.proofs.There.{IsBaseLeaf, base_leaf_there}
+use Rattle.px_link_types.proofs.There.{IsBaseLeaf, base_leaf_there, own_there}
 use Rattle.px_link_types.specs.Infos.{number_in}
-use Rattle.px_link_types.specs.Keys.{alone}
+use Rattle.px_link_types.specs.Keys.{IsKey, alone}
 use Rattle.px_link_types.specs.Making.{AreKnown, AreNumberedIn}
 use Rattle.px_link_types.specs.Numbers.{base_leaf, field_key, has_key, instance_fields, is_numbered, leaf_keys, library_keys, number_of, own_types, place_of_leaf, static_fields}
 use Rattle.px_link_types.specs.declared.key.Key.{Key}
 use Rattle.px_link_types.specs.declared.key.Leaf.{Leaf}
 use Rattle.px_link_types.specs.declared.key.Leaf.TheVariants.{Number, Library, Defined}
 use Rattle.px_asm_law_relink.proofs.TypeKeys.{each_own, number_past}
-use Rattle.px_asm_law_relink.proofs.TypeMet.{IsFit, fit_keys, library_fit_all, met_fit, own_fit}
+use Rattle.px_asm_law_relink.proofs.TypeMet.{library_keys_there, met_there}
 use Rattle.px_asm_law_relink.proofs.TypeOwned.{reached_owned}
 use Rattle.px_asm_law_relink.proofs.WritingTexts.{type_text}
 use Rattle.px_asm_law_relink.specs.Linked.{IsLinked}
@@ -59,19 +60,19 @@ module _ (p : Program) (l : IsLinked p) where
   met = met_by_all l.assembly.v l.assembly.reads.reached.rows l.assembly.reads.reached.bodies
 
   pub have_all : HaveTypes l.assembly.v (keys_of l) p.types
-  have_all = let r = l.assembly.reads in have_types v (numbering_of r) r.lists r.reached.virtual_targets p.types r.types
+  have_all = let r = l.assembly.reads in have_types v (numbering_of r) r.lists (in_order r.reached.rows r.reached.virtual_targets) p.types r.types
 
-  met_is_fit : AllByRecursion (IsFit v) met
-  met_is_fit = met_fit v l.assembly.reads.reached.rows l.assembly.reads.reached.bodies (each_in (IsOwned v) l.assembly.reads.reached.rows (reached_owned l.assembly.reads))
+  met_are_there : AllByRecursion (IsKey v) met
+  met_are_there = met_there v l.assembly.reads.reached.rows l.assembly.reads.reached.bodies (each_in (IsOwned v) l.assembly.reads.reached.rows (reached_owned l.assembly.reads))
 
-  all_fit : AllByRecursion (IsFit v) keys
-  all_fit = each_numbered (IsFit v) (own_fit v l.sound) l.assembly.reads.numbers (library_fit_all v) met_is_fit
+  all_there : AllByRecursion (IsKey v) keys
+  all_there = each_numbered (IsKey v) (own_there v l.sound) l.assembly.reads.numbers (library_keys_there v) met_are_there
 
   pub all_known : AreKnown l.assembly.v (keys_of l)
-  all_known = are_known v met keys l.sound l.assembly.reads.numbers (fit_keys v met met_is_fit)
+  all_known = are_known v met keys l.sound l.assembly.reads.numbers met_are_there
 
   pub row_there : (row : ℕ) → HasNumber l row → IsRow l.assembly.v type_defs row
-  row_there row has = (each_at (IsFit v) keys all_fit (number_of keys (alone (Defined row))) (alone (Defined row)) (at_number keys (alone (Defined row)) has)).there
+  row_there row has = each_at (IsKey v) keys all_there (number_of keys (alone (Defined row))) (alone (Defined row)) (at_number keys (alone (Defined row)) has)
 
   pub type_behind : (row : ℕ) → 18 ≤ number_of (keys_of l) (alone (Defined row))
   type_behind row =
@@ -101,7 +102,7 @@ module _ (p : Program) (l : IsLinked p) where
 
   -- a type of the library that has a number is there
   pub library_few : (n : ℕ) → has_key (keys_of l) (alone (Library n)) ≡ true → n < 18
-  library_few n has = (each_at (IsFit v) keys all_fit (number_of keys (alone (Library n))) (alone (Library n)) (at_number keys (alone (Library n)) has)).there
+  library_few n has = each_at (IsKey v) keys all_there (number_of keys (alone (Library n))) (alone (Library n)) (at_number keys (alone (Library n)) has)
 
   abbrev IsBase : ℕ → Type 0
   IsBase base = (base < 17) ⊎ ((18 ≤ base) × (is_in p.layout.types base ≡ true))

@@ -8,7 +8,9 @@ use Rattle.px_asm_described.specs.Describes.{IsTypeOf}
 use Rattle.px_sig.specs.Grammar.{method_sig}
 use Rattle.px_sig.specs.declared.sig.Integer.TheVariants as integers
 use Rattle.px_sig.specs.declared.sig.MethodSig.{MethodSig}
-use Rattle.px_sig.specs.declared.sig.SigType.{SigType, Void, Int}
+use Rattle.px_sig.specs.Grammar.{plain_type}
+use Rattle.px_sig.specs.declared.sig.SigLeaf.TheVariants.{Void, Int}
+use Rattle.px_sig.specs.declared.sig.SigType.{SigType}
 use Rattle.px_tables.specs.declared.tables.Row.{Row}
 
 -- the heaps of strings, of user strings and of blobs, and the rows of MemberRef
@@ -43,11 +45,11 @@ pub record IsReference (s : Store) (parent : ℕ) (name : List ℕ) (sig : Metho
 
 -- the signature of `PexAssume::IsTrue` and of `PexAssert::IsTrue`
 abbrev pub check_sig : MethodSig
-check_sig = record { has_this = false; plain = true; ret = Void; params = Int integers.Bool ∷ [] }
+check_sig = record { has_this = false; plain = true; ret = plain_type Void; params = plain_type (Int integers.Bool) ∷ [] }
 
 -- the signature of a constructor with parameters of these types
 abbrev pub constructor_sig : List SigType → MethodSig
-constructor_sig types = record { has_this = true; plain = true; ret = Void; params = types }
+constructor_sig types = record { has_this = true; plain = true; ret = plain_type Void; params = types }
 
 -- a constructor of a type of the library with parameters of these places
 pub record IsConstructorRow (p : Program) (s : Store) (class : ℕ) (params : List Place) (row : Row) : Type 0 where

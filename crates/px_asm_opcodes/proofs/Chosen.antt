@@ -236,7 +236,7 @@ module _ (raw : RawInstr) (encodable : IsEncodable raw) where
       let P = λ (m : Move). IsChosen raw (code.Move m) in
       step P (n == 0x14) _ _ (alone 0x14 _ (refl, refl, refl, refl))
       (step P (n == 0x15) _ _ (alone 0x15 _ (refl, refl, refl, refl))
-      (step P (is_from_to 0x16 0x1E n) _ _ (λ e. in_opcode 0x16 0x1E 9 (λ k. code.Move (move.Constant false (k - 0x16))) refl e ((refl, refl, refl, refl), ((refl, refl, refl, refl), ((refl, refl, refl, refl), ((refl, refl, refl, refl), ((refl, refl, refl, refl), ((refl, refl, refl, refl), ((refl, refl, refl, refl), ((refl, refl, refl, refl), ((refl, refl, refl, refl), tt))))))))))
+      (step P (is_from_to 0x16 0x1E n) _ _ (λ e. in_opcode 0x16 0x1E 9 (λ k. code.Move (move.Constant32 (k - 0x16))) refl e ((refl, refl, refl, refl), ((refl, refl, refl, refl), ((refl, refl, refl, refl), ((refl, refl, refl, refl), ((refl, refl, refl, refl), ((refl, refl, refl, refl), ((refl, refl, refl, refl), ((refl, refl, refl, refl), ((refl, refl, refl, refl), tt))))))))))
       (step P (n == 0x1F) _ _ (with_number 0x1F 1 _ refl refl (λ less. byte_back raw.operand less) refl)
       (step P (n == 0x20) _ _ (with_number 0x20 4 _ refl refl (λ less. mod-eq_of_lt less) refl)
       (step P (n == 0x21) _ _ (with_number 0x21 8 _ refl refl (λ less. refl) refl)

@@ -33,10 +33,9 @@ abbrev pub slot_opcode : ℕ → ℕ → ℕ → ℕ → ℕ → ℕ
 slot_opcode first short long number size = if (size == 1) && nat_le number 3 then first + number else wide_slot short long size
 
 -- the constants -1 to 8 can stand in the opcode, and small ones in one byte
-abbrev pub constant_opcode : Bool → ℕ → ℕ → ℕ
-constant_opcode wide pattern size =
-    if wide then 0x21
-    else if size == 2 then 0x1F
+abbrev pub constant_opcode : ℕ → ℕ → ℕ
+constant_opcode pattern size =
+    if size == 2 then 0x1F
     else if size == 5 then 0x20
     else if nat_le pattern 8 then 0x16 + pattern
     else 0x15
@@ -46,7 +45,8 @@ move_opcode (move.Argument number) size = slot_opcode 0x02 0x0E 0xFE09 number si
 move_opcode (move.SetArgument number) size = wide_slot 0x10 0xFE0B size
 move_opcode (move.Local number) size = slot_opcode 0x06 0x11 0xFE0C number size
 move_opcode (move.SetLocal number) size = slot_opcode 0x0A 0x13 0xFE0E number size
-move_opcode (move.Constant wide pattern) size = constant_opcode wide pattern size
+move_opcode (move.Constant32 pattern) size = constant_opcode pattern size
+move_opcode (move.Constant64 pattern) size = 0x21
 move_opcode move.Null size = 0x14
 move_opcode (move.Text units) size = 0
 move_opcode move.Duplicate size = 0x25
@@ -65,7 +65,8 @@ move_operand (move.Argument number) size = slot_operand number size
 move_operand (move.SetArgument number) size = slot_operand number size
 move_operand (move.Local number) size = slot_operand number size
 move_operand (move.SetLocal number) size = slot_operand number size
-move_operand (move.Constant wide pattern) size = constant_operand pattern size
+move_operand (move.Constant32 pattern) size = constant_operand pattern size
+move_operand (move.Constant64 pattern) size = pattern
 move_operand move.Null size = 0
 move_operand (move.Text units) size = 0
 move_operand move.Duplicate size = 0

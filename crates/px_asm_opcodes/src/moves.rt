@@ -23,13 +23,10 @@ fn slot_opcode(first: u16, short: u16, long: u16, number: u32, size: u32) -> u16
     }
 }
 
-// The opcode of a constant.
-fn constant_opcode(wide: bool, pattern: u64, size: u32) -> u16
-    ensures { result ≡ spec.constant_opcode wide pattern size }
+// The opcode of a constant of 32 bits.
+fn constant_opcode(pattern: u32, size: u32) -> u16
+    ensures { result ≡ spec.constant_opcode pattern size }
 {
-    if wide {
-        return 0x21;
-    }
     match size {
         2 => 0x1F,
         5 => 0x20,
@@ -47,7 +44,8 @@ pub fn move_opcode(step: &Move, size: u32) -> u16
         Move::SetArgument(_) => wide_slot(0x10, 0xFE0B, size),
         Move::Local(number) => slot_opcode(0x06, 0x11, 0xFE0C, *number, size),
         Move::SetLocal(number) => slot_opcode(0x0A, 0x13, 0xFE0E, *number, size),
-        Move::Constant { wide, pattern } => constant_opcode(*wide, *pattern, size),
+        Move::Constant32(pattern) => constant_opcode(*pattern, size),
+        Move::Constant64(_) => 0x21,
         Move::Null => 0x14,
         Move::Text(_) => 0,
         Move::Duplicate => 0x25,
@@ -62,14 +60,14 @@ fn slot_operand(number: u32, size: u32) -> u64
     if size == 1 { 0 } else { u64::from(number) }
 }
 
-// What follows the opcode of a constant: nothing, its low byte, or the whole.
-fn constant_operand(pattern: u64, size: u32) -> u64
+// What follows the opcode of a constant of 32 bits: nothing, its low byte, or the whole.
+fn constant_operand(pattern: u32, size: u32) -> u64
     ensures { result ≡ spec.constant_operand pattern size }
 {
     match size {
         1 => 0,
-        2 => pattern % (1 << 8),
-        _ => pattern,
+        2 => u64::from(pattern % (1 << 8)),
+        _ => u64::from(pattern),
     }
 }
 
@@ -80,7 +78,8 @@ pub fn move_operand(step: &Move, size: u32) -> u64
     match step {
         Move::Argument(number) | Move::SetArgument(number) => slot_operand(*number, size),
         Move::Local(number) | Move::SetLocal(number) => slot_operand(*number, size),
-        Move::Constant { pattern, .. } => constant_operand(*pattern, size),
+        Move::Constant32(pattern) => constant_operand(*pattern, size),
+        Move::Constant64(pattern) => *pattern,
         Move::Null | Move::Text(_) | Move::Duplicate | Move::Pop => 0,
     }
 }

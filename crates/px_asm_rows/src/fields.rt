@@ -76,7 +76,7 @@ fn field_row(
     let (is_static, place) = field;
     let name = field_name(alloc, number)?;
     let name = store.name(&name)?;
-    let item = type_of(alloc, rows, place)?;
+    let item = type_of(rows, place);
     let sig = store.field_sig(&item)?;
     let flags = if is_static { PUBLIC + STATIC } else { PUBLIC };
     Ok(Row {

@@ -39,12 +39,12 @@ fn places_of(alloc: Global, types: u32) -> Result<Vec<Place>, AllocError>
 }
 
 // The row of a place.
-fn spec_row(alloc: Global, rows: &Rows, store: &mut Store, place: Place) -> Result<Row, AllocError>
+fn spec_row(rows: &Rows, store: &mut Store, place: Place) -> Result<Row, AllocError>
     requires { FitsPlace rows.now.types place }
     ensures row { IfOk result (IsSpecRow rows.now store.new place) }
     ensures grows { OnOk result (StoreGrows store.old store.new) }
 {
-    let item = type_of(alloc, rows, place)?;
+    let item = type_of(rows, place);
     let sig = store.type_sig(&item)?;
     Ok(Row {
         cells: [sig, 0, 0, 0, 0, 0, 0, 0, 0],
@@ -64,7 +64,7 @@ fn rows_of(
 {
     let mut made = Vec::new(alloc);
     for place in places {
-        made.push(spec_row(alloc, rows, store, *place)?)?;
+        made.push(spec_row(rows, store, *place)?)?;
     }
     Ok(made)
 }

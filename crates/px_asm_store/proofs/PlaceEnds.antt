@@ -10,9 +10,10 @@ use Rattle.px_program.specs.declared.program.Program.{Program}
 use Rattle.px_program.specs.declared.program.TypeInfo.{TypeInfo}
 use Rattle.px_program.proofs.Types.{each_at}
 use Rattle.px_asm_described.specs.Describes.{IsTypeOf}
+use Rattle.px_sig.specs.Grammar.{array_of, plain_type}
 use Rattle.px_sig.specs.Parts.{arrays_of}
+use Rattle.px_sig.specs.declared.sig.SigLeaf.{SigLeaf}
 use Rattle.px_sig.specs.declared.sig.SigType.{SigType}
-use Rattle.px_sig.specs.declared.sig.SigType.{Array}
 use Rattle.px_link_types.proofs.Ends.{LeadsBelow, chain_within, fewer_left, in_bound, steps_left}
 use Rattle.px_asm_store.specs.Elements.{HoldsArray}
 
@@ -82,13 +83,26 @@ element_fits p _ element types holds = absurd holds
 -- TYPES AROUND A PLACE
 
 -- the type of an array
-pub type_around : (p : Program) (place element : Place) (type : SigType) → HoldsArray p place element → IsTypeOf p element type → IsTypeOf p place (Array type)
-type_around p (places.Ref array) element type holds is = IsTypeOf.IsArray array element (places.Ref array) type (Array type) holds is refl refl
+pub type_around : (p : Program) (place element : Place) (type : SigType) → HoldsArray p place element → IsTypeOf p element type → IsTypeOf p place (array_of type)
+type_around p (places.Ref array) element type holds is = IsTypeOf.IsArray array element (places.Ref array) type (array_of type) holds is refl refl
 type_around p _ element type holds is = absurd holds
 
+-- what a place holds that has so many arrays around what another holds
+abbrev pub IsAround : Program → Place → Place → ℕ → Type 0
+IsAround p place inner arrays = (type : SigType) → IsTypeOf p inner type → IsTypeOf p place (arrays_of arrays type)
+
+as_deep : (p : Program) (place : Place) (leaf : SigLeaf) (depth other : ℕ) → depth ≡ other → IsTypeOf p place (record { depth = depth; leaf = leaf }) → IsTypeOf p place (record { depth = other; leaf = leaf })
+as_deep p place leaf depth other same is = let P : ℕ → Type 0 = λ n. IsTypeOf p place (record { depth = n; leaf = leaf }) in subst P same is
+
+-- no array is passed
+pub around_none : (p : Program) (place : Place) → IsAround p place place 0
+around_none p place type is = as_deep p place type.leaf type.depth (type.depth + 0) (omega arith) is
+
 -- one more array is passed
-pub around_more : (p : Program) (place inner element : Place) (arrays : ℕ) → ((type : SigType) → IsTypeOf p inner type → IsTypeOf p place (arrays_of arrays type)) → HoldsArray p inner element
-    → (type : SigType) → IsTypeOf p element type → IsTypeOf p place (arrays_of (arrays + 1) type)
+pub around_more : (p : Program) (place inner element : Place) (arrays : ℕ) → IsAround p place inner arrays → HoldsArray p inner element → IsAround p place element (arrays + 1)
 around_more p place inner element arrays around holds type is =
-    let more : arrays + 1 ≡ suc arrays = omega arith in
-    subst (λ n. IsTypeOf p place (arrays_of n type)) (sym more) (around (Array type) (type_around p inner element type holds is))
+    as_deep p place type.leaf (suc type.depth + arrays) (type.depth + (arrays + 1)) (omega arith) (around (array_of type) (type_around p inner element type holds is))
+
+-- the arrays that are passed around what is no array
+pub around_leaf : (p : Program) (place inner : Place) (arrays : ℕ) → IsAround p place inner arrays → (leaf : SigLeaf) → IsTypeOf p inner (plain_type leaf) → IsTypeOf p place (record { depth = arrays; leaf = leaf })
+around_leaf p place inner arrays around leaf is = as_deep p place leaf (zero + arrays) arrays (omega arith) (around (plain_type leaf) is)

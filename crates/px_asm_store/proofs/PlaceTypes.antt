@@ -1,17 +1,13 @@
 -- The types of places that hold no array.
-use Rattle.std.proofs.Common.{◌≡◌, ◌≢◌, inl, inr, ℕ, zero, suc, ◌+◌, ◌*◌, ◌<◌, ◌≤◌, ◌^◌, Bool, true, false, List, [], ◌∷◌, Some, None, length, take, sym, ap, ◌∙◌, ⊎_elim, arith, eq-eqb}
+use Rattle.std.proofs.Common.{◌≡◌, ◌≢◌, inl, inr, ℕ, zero, suc, ◌+◌, ◌*◌, ◌<◌, ◌≤◌, ◌^◌, true, false, List, [], ◌∷◌, Some, None, length, take, ⊎_elim, arith, eq-eqb}
 use Rattle.std.specs.Prelude.{◌==◌, ◌||◌, ◌/◌, nat_lt, slice_get}
 use Rattle.std.proofs.lemmas.Bool.{cases_Bool, cond_both, lt-ltb, ltb-true, or_left, or_right}
-use Rattle.px_asm_heaps.specs.Spelling.{is_class_token, is_spelled, spelled_by}
+use Rattle.px_asm_heaps.specs.Spelling.{is_class_token}
 use Rattle.px_program.specs.declared.program.Place.TheVariants as places
 use Rattle.px_program.specs.declared.program.Program.{Program}
 use Rattle.px_program.specs.declared.program.TypeInfo.{TypeInfo}
 use Rattle.px_program.proofs.Types.{each_at}
 use Rattle.px_asm_described.specs.Describes.{IsClass, class_token, type_row}
-use Rattle.px_sig.specs.declared.sig.SigType.{SigType}
-use Rattle.px_sig.specs.declared.sig.SigType.TheFolds.{fold-roll-SigType}
-use Rattle.px_sig.specs.declared.sig.SigType.TheOpen as opened
-use Rattle.px_sig.specs.declared.sig.SigType.TheVariants.{Array, Class, rolls-Array, rolls-Class}
 use Rattle.px_link_types.proofs.Formed.{at_place}
 use Rattle.px_asm_store.specs.Elements.{IsLeaf}
 use Rattle.px_asm_store.specs.Rows.{HasRoom, IsLaid, IsTyped}
@@ -71,11 +67,3 @@ class_spelled p class room is =
     cond_both (nat_lt class 18) (0x01 * 2 ^ 24 + (class + 1)) (0x02 * 2 ^ 24 + type_row p class) (λ at. is_class_token at ≡ true)
     (λ less. ref_spelled (class + 1) (omega (arith, ltb-true class 18 less)))
     (λ more. def_spelled (type_row p class) (few_type_row p room class (behind_library p class more is)))
-
--- SPELLING
-
-pub spelled_class : (at : ℕ) → is_spelled (Class at) ≡ is_class_token at
-spelled_class at = ap is_spelled (sym (rolls-Class at)) ∙ fold-roll-SigType Bool spelled_by (opened.Class at)
-
-pub spelled_array : (element : SigType) → is_spelled (Array element) ≡ is_spelled element
-spelled_array element = ap is_spelled (sym (rolls-Array element)) ∙ fold-roll-SigType Bool spelled_by (opened.Array element)

@@ -5,8 +5,8 @@ use Rattle.px_program.specs.declared.program.Place.{Place}
 use Rattle.px_program.specs.declared.program.Place.TheVariants as places
 use Rattle.px_program.specs.declared.program.Program.{Program}
 use Rattle.px_asm_described.specs.Describes.{HasElement, IsClass, IsTypeOf}
-use Rattle.px_sig.specs.Parts.{arrays_of}
-use Rattle.px_sig.specs.declared.sig.SigType.{SigType}
+use Rattle.px_sig.specs.Grammar.{plain_type}
+use Rattle.px_sig.specs.declared.sig.SigLeaf.{SigLeaf}
 
 -- a place that holds an array with elements of this place
 abbrev pub HoldsArray : Program → Place → Place → Type 0
@@ -22,4 +22,4 @@ IsLeaf p _ = Unit {0}
 pub record IsInnermost (p : Program) (place : Place) (arrays : ℕ) (inner : Place) : Type 0 where
   pub leaf : IsLeaf p inner
   pub fits : FitsPlace p.types inner
-  pub around : (type : SigType) → IsTypeOf p inner type → IsTypeOf p place (arrays_of arrays type)
+  pub around : (leaf : SigLeaf) → IsTypeOf p inner (plain_type leaf) → IsTypeOf p place (record { depth = arrays; leaf = leaf })

@@ -1,19 +1,19 @@
 // Types in signatures, by the places of a program: Partition II, 23.2.12.
 ghost use Rattle.std.specs.Prelude.{◌≡◌, ◌<◌, ◌^◌, true, Some, length, IfOk, IfSome, IfNone, slice_get};
 ghost use Rattle.std.specs.List.{AllByRecursion, AllZip, list_all};
-ghost use Rattle.px_asm_heaps.specs.Spelling.{IsSpelledSig, is_spelled};
-ghost use Rattle.px_program.specs.Formed.{AreTypes, FitsPlace, IsFormedIn, explicit_params};
+ghost use Rattle.px_asm_heaps.specs.Spelling.{IsSpelledSig, is_spelled, is_leaf_spelled};
+ghost use Rattle.px_program.specs.Formed.{AreTypes, FitsPlace};
 ghost use Rattle.px_program.specs.declared.program.Method.{Method};
 ghost use Rattle.px_program.specs.declared.program.Place.TheVariants.{Ref};
 ghost use Rattle.px_asm_described.specs.Describes.{IsSigOf, IsTypeOf, class_token};
-ghost use Rattle.px_sig.specs.Parts.{arrays_of};
+ghost use Rattle.px_sig.specs.Grammar.{plain_type};
 ghost use Rattle.px_asm_store.specs.Elements.{HoldsArray, IsLeaf, IsInnermost};
 ghost use Rattle.px_asm_store.specs.Rows.{HasRoom, IsTyped};
 
 use crate::rows::Rows;
 use px_program::{Method, Place, Program};
-use px_sig::{Integer, MethodSig, SigType};
-use sqlite_items::{Boxed, Items};
+use px_sig::{Integer, MethodSig, SigLeaf, SigType};
+use sqlite_items::Items;
 use std::alloc::{AllocError, Global};
 
 /// The token of a class of the library or of the assembly.
@@ -58,66 +58,56 @@ fn innermost(program: &Program, place: Place) -> (u32, Place)
 }
 
 // The type of a class.
-fn class_type(rows: &Rows, class: u32) -> SigType
+fn class_type(rows: &Rows, class: u32) -> SigLeaf
     requires room { HasRoom rows.now }
     requires there { class < length rows.now.types }
     requires leaf { IsLeaf rows.now (Ref class) }
-    ensures is { IsTypeOf rows.now (Ref class) result }
-    ensures spelled { is_spelled result ≡ true }
+    ensures is { IsTypeOf rows.now (Ref class) (plain_type result) }
+    ensures spelled { is_leaf_spelled result ≡ true }
 {
     match class {
-        0 => SigType::Object,
-        17 => SigType::Str,
-        _ => SigType::Class(class_token(rows, class)),
+        0 => SigLeaf::Object,
+        17 => SigLeaf::Str,
+        _ => SigLeaf::Class(class_token(rows, class)),
     }
 }
 
 // The type of what a place holds that is no array.
-fn leaf_type(rows: &Rows, place: Place) -> SigType
+fn leaf_type(rows: &Rows, place: Place) -> SigLeaf
     requires room { HasRoom rows.now }
     requires fits { FitsPlace rows.now.types place }
     requires leaf { IsLeaf rows.now place }
-    ensures is { IsTypeOf rows.now place result }
-    ensures spelled { is_spelled result ≡ true }
+    ensures is { IsTypeOf rows.now place (plain_type result) }
+    ensures spelled { is_leaf_spelled result ≡ true }
 {
     match place {
-        Place::Bool => SigType::Int(Integer::Bool),
-        Place::Char => SigType::Int(Integer::Char),
-        Place::I1 => SigType::Int(Integer::I1),
-        Place::U1 => SigType::Int(Integer::U1),
-        Place::I2 => SigType::Int(Integer::I2),
-        Place::U2 => SigType::Int(Integer::U2),
-        Place::I4 => SigType::Int(Integer::I4),
-        Place::U4 => SigType::Int(Integer::U4),
-        Place::I8 => SigType::Int(Integer::I8),
-        Place::U8 => SigType::Int(Integer::U8),
-        Place::N => SigType::Int(Integer::N),
-        Place::UN => SigType::Int(Integer::UN),
+        Place::Bool => SigLeaf::Int(Integer::Bool),
+        Place::Char => SigLeaf::Int(Integer::Char),
+        Place::I1 => SigLeaf::Int(Integer::I1),
+        Place::U1 => SigLeaf::Int(Integer::U1),
+        Place::I2 => SigLeaf::Int(Integer::I2),
+        Place::U2 => SigLeaf::Int(Integer::U2),
+        Place::I4 => SigLeaf::Int(Integer::I4),
+        Place::U4 => SigLeaf::Int(Integer::U4),
+        Place::I8 => SigLeaf::Int(Integer::I8),
+        Place::U8 => SigLeaf::Int(Integer::U8),
+        Place::N => SigLeaf::Int(Integer::N),
+        Place::UN => SigLeaf::Int(Integer::UN),
         Place::Ref(class) => class_type(rows, class),
     }
 }
 
-// So many arrays around a type.
-fn arrays_of(alloc: Global, count: u32, inner: SigType) -> Result<SigType, AllocError>
-    requires { is_spelled inner ≡ true }
-    ensures arrays { IfOk result (λ item. item ≡ arrays_of count inner) }
-    ensures spelled { IfOk result (λ item. is_spelled item ≡ true) }
-{
-    let mut outer = inner;
-    for _ in 0..count {
-        outer = SigType::Array(Boxed::new(alloc, outer)?);
-    }
-    Ok(outer)
-}
-
 /// The type that says in a signature what a place holds.
-pub fn type_of(alloc: Global, rows: &Rows, place: Place) -> Result<SigType, AllocError>
+pub fn type_of(rows: &Rows, place: Place) -> SigType
     requires { FitsPlace rows.now.types place }
-    ensures is { IfOk result (IsTypeOf rows.now place) }
-    ensures spelled { IfOk result (λ item. is_spelled item ≡ true) }
+    ensures is { IsTypeOf rows.now place result }
+    ensures spelled { is_spelled result ≡ true }
 {
-    let (arrays, inner) = innermost(rows.program(), place);
-    arrays_of(alloc, arrays, leaf_type(rows, inner))
+    let (depth, inner) = innermost(rows.program(), place);
+    SigType {
+        depth,
+        leaf: leaf_type(rows, inner),
+    }
 }
 
 /// The types of places.
@@ -128,23 +118,9 @@ pub fn types_of(alloc: Global, rows: &Rows, places: &[Place]) -> Result<Items<Si
 {
     let mut types = Items::new(alloc);
     for place in places {
-        types.push(type_of(alloc, rows, *place)?)?;
+        types.push(type_of(rows, *place))?;
     }
     Ok(types)
-}
-
-// The parameters of a method without the receiver.
-fn explicit_params<'m>(program: &'m Program, method: &'m Method) -> &'m [Place]
-    requires { IsFormedIn program.now method.now }
-    ensures arguments { result.now ≡ explicit_params method.now }
-    ensures fit { AllByRecursion (FitsPlace program.now.types) result.now }
-{
-    let params = method.params.as_slice();
-    if method.is_static {
-        params
-    } else {
-        &params[1..]
-    }
 }
 
 /// The signature of a method of the program.
@@ -155,10 +131,13 @@ pub fn sig_of(alloc: Global, rows: &Rows, number: u32) -> Result<MethodSig, Allo
 {
     let program = rows.program();
     let method = &program.methods.as_slice()[number as usize];
-    let params = types_of(alloc, rows, explicit_params(program, method))?;
+    let params = types_of(alloc, rows, method.params.as_slice())?;
     let ret = match method.ret {
-        Some(place) => type_of(alloc, rows, place)?,
-        None => SigType::Void,
+        Some(place) => type_of(rows, place),
+        None => SigType {
+            depth: 0,
+            leaf: SigLeaf::Void,
+        },
     };
     Ok(MethodSig {
         has_this: !method.is_static,

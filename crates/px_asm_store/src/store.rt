@@ -17,7 +17,7 @@ use px_asm_heaps::{
     field_sig, locals_sig, method_sig, push_blob, push_string, push_text, type_sig,
 };
 use px_program::Place;
-use px_sig::{Integer, MethodSig, SigType};
+use px_sig::{Integer, MethodSig, SigLeaf, SigType};
 use px_tables::Row;
 use sqlite_items::Items;
 use std::alloc::{AllocError, Global};
@@ -64,11 +64,17 @@ fn check_sig(alloc: Global) -> Result<MethodSig, AllocError>
     ensures spelled { IfOk result IsSpelledSig }
 {
     let mut params = Items::new(alloc);
-    params.push(SigType::Int(Integer::Bool))?;
+    params.push(SigType {
+        depth: 0,
+        leaf: SigLeaf::Int(Integer::Bool),
+    })?;
     Ok(MethodSig {
         has_this: false,
         plain: true,
-        ret: SigType::Void,
+        ret: SigType {
+            depth: 0,
+            leaf: SigLeaf::Void,
+        },
         params,
     })
 }
@@ -183,7 +189,10 @@ impl Store {
         self.method_sig(&MethodSig {
             has_this: true,
             plain: true,
-            ret: SigType::Void,
+            ret: SigType {
+                depth: 0,
+                leaf: SigLeaf::Void,
+            },
             params,
         })
     }

@@ -47,7 +47,7 @@ fn raws_of(
 {
     let mut raws = Items::new(alloc);
     for instr in code {
-        let token = token_of(alloc, rows, store, &instr.code)?;
+        let token = token_of(rows, store, &instr.code)?;
         let raw = raw_of(alloc, instr, token)?;
         raws.push(raw)?;
     }

@@ -127,12 +127,7 @@ fn callee_token(rows: &Rows, store: &mut Store, callee: &Callee) -> Result<u32, 
 }
 
 /// The token that an instruction has where the program is written, and 0 where it has none. Texts and constructors are added to the store.
-pub fn token_of(
-    alloc: Global,
-    rows: &Rows,
-    store: &mut Store,
-    code: &Code,
-) -> Result<u32, AllocError>
+pub fn token_of(rows: &Rows, store: &mut Store, code: &Code) -> Result<u32, AllocError>
     requires operands { HasOperands rows.now code.now }
     requires before { AreReferences rows.now store.old }
     ensures token { IfOk result (HasTokenIn rows.now store.new code.now) }

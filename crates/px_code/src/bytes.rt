@@ -1,18 +1,8 @@
 // Numbers in bytes.
 ghost use Rattle.std.specs.Prelude.{◌≡◌, ◌≤◌, ◌<◌, ◌+◌, ◌*◌, ◌^◌, length};
-ghost use Rattle.px_code.specs.Body.{aligned, little_endian, number_at};
+ghost use Rattle.px_code.specs.Body.{aligned, number_at};
 
-/// The number of at most eight bytes, the low byte first.
-pub fn little_endian(bytes: &[u8]) -> u64
-    requires { length bytes.now ≤ 8 }
-    ensures number { result ≡ little_endian bytes.now }
-    ensures bound { result < 2 ^ (8 * length bytes.now) }
-{
-    match bytes {
-        [] => 0,
-        [low, high @ ..] => u64::from(*low) + 256 * little_endian(high),
-    }
-}
+use byteorder::{ByteOrder, LittleEndian};
 
 /// The number of so many bytes from a place on.
 pub fn number_at(bytes: &[u8], at: usize, size: usize) -> u64
@@ -21,7 +11,10 @@ pub fn number_at(bytes: &[u8], at: usize, size: usize) -> u64
     ensures number { result ≡ number_at bytes.now at size }
     ensures bound { result < 2 ^ (8 * size) }
 {
-    little_endian(&bytes[at..at + size])
+    if size == 0 {
+        return 0;
+    }
+    LittleEndian::read_uint(&bytes[at..], size)
 }
 
 /// The next multiple of 4.

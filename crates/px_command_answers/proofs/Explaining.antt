@@ -2,11 +2,11 @@
 use Rattle.std.proofs.Common.{◌≡◌, ℕ, List, [], ◌∷◌, subst, Ok, true, refl, sym, ap, ◌∙◌, inr}
 use Rattle.px_code.specs.declared.body.Body.{Body}
 use Rattle.px_code.specs.Body.{body_of}
-use Rattle.px_domain.specs.Domain.{params_of}
 use Rattle.px_link.specs.Link.{Reads}
 use Rattle.px_link.specs.Raw.{program_of}
 use Rattle.px_link.specs.Raw as raw
 use Rattle.px_pe.specs.Image as pe
+use Rattle.px_program.specs.Arguments.{arguments_of}
 use Rattle.px_program.specs.declared.program.Place.{Place}
 use Rattle.px_program.specs.declared.program.Program.{Program}
 use Rattle.px_tables.specs.Metadata.{View}
@@ -32,15 +32,15 @@ explains_raw bytes places text body program answers.Memory is none same h = tt
 
 -- what a program of the form that is explored gives is what the method of its name gives
 refuses_named : (v : View) (image : pe.View) (name text : List ℕ) (program : Program) (why : Refusal)
-    → Reads v image name program → is_explored program ≡ true → RefusesProgram program (params_of program) text why → RefusesNamed v image name text why
+    → Reads v image name program → is_explored program ≡ true → RefusesProgram program (arguments_of program) text why → RefusesNamed v image name text why
 refuses_named v image name text program (refusals.Domain at) r form h = (program, r, misread program text at form h)
 refuses_named v image name text program refusals.Unsupported r form h = (program, r, inr (form, h))
 refuses_named v image name text program _ r form h = absurd h
 
 pub explains_named : (v : View) (image : pe.View) (name text : List ℕ) (program : Program) (answer : Answer)
-    → Reads v image name program → is_explored program ≡ true → HasCause program (params_of program) text answer → ExplainsNamed v image name text answer
+    → Reads v image name program → is_explored program ≡ true → HasCause program (arguments_of program) text answer → ExplainsNamed v image name text answer
 explains_named v image name text program (answers.Found linked f) r form h =
-    (let P : Program → Type 0 = λ p. Reads v image name p × (is_explored p ≡ true) × Finds p (params_of p) text f in subst P (sym h.0) (r, form, h.1))
+    (let P : Program → Type 0 = λ p. Reads v image name p × (is_explored p ≡ true) × Finds p (arguments_of p) text f in subst P (sym h.0) (r, form, h.1))
 explains_named v image name text program (answers.Refused why) r form h = refuses_named v image name text program why r form h
 explains_named v image name text program answers.Memory r form h = tt
 
@@ -58,10 +58,10 @@ explains_method bytes name text image v (answers.Found program f) a h = (image, 
 explains_method bytes name text image v (answers.Refused why) a h = refuses_method bytes name text image v why a h
 explains_method bytes name text image v answers.Memory a h = tt
 
--- the parameters of a raw body's program are those that it was made with
+-- the arguments of a raw body's program are those that it was made with
 same_params : (elements places : List Place) → raw.params_of elements places (no_arrays places) ≡ places
 same_params elements [] = refl
 same_params elements (place ∷ places) = ap (λ others. place ∷ others) (same_params elements places)
 
-pub raw_params : (body : Body) (places : List Place) → params_of (program_of body places (no_arrays places)) ≡ places
-raw_params body places = same_params (raw.elements_of places (no_arrays places)) places
+pub raw_arguments : (body : Body) (places : List Place) → arguments_of (program_of body places (no_arrays places)) ≡ places
+raw_arguments body places = same_params (raw.elements_of places (no_arrays places)) places

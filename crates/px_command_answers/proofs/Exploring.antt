@@ -1,16 +1,15 @@
 -- The form of programs that are explored.
-use Rattle.std.proofs.Common.{◌≡◌, ℕ, ◌≤◌, List, [], ◌∷◌, Option, Some, None, Err, Bool, true, false, cond, length, refl, sym, ap, ◌∙◌, subst, arith}
-use Rattle.std.specs.Prelude.{◌&&◌, nat_le, drop}
+use Rattle.std.proofs.Common.{◌≡◌, ℕ, ◌≤◌, List, [], ◌∷◌, Option, Some, None, Err, Bool, true, false, length, refl, ap, ◌∙◌, arith}
+use Rattle.std.specs.Prelude.{◌&&◌, nat_le}
 use Rattle.std.specs.List.{AllByRecursion, list_all}
-use Rattle.px_domain.specs.Domain.{params_in, params_of}
 use Rattle.px_domain.specs.Grammar.{domain_of}
-use Rattle.px_link.specs.Link.{arguments_in, arguments_of}
+use Rattle.px_program.specs.Arguments.{arguments_of, is_integer, params_in}
 use Rattle.px_program.specs.Formed.{IsInteger, entry_of}
 use Rattle.px_program.specs.declared.program.Method.{Method}
 use Rattle.px_program.specs.declared.program.Place.{Place}
 use Rattle.px_program.specs.declared.program.Place.TheVariants as places
 use Rattle.px_program.specs.declared.program.Program.{Program}
-use Rattle.px_command_answers.specs.Answers.{IsMisread, is_explored, is_explored_method, is_int32, is_integer, is_read, returns_int32}
+use Rattle.px_command_answers.specs.Answers.{IsMisread, is_explored, is_explored_method, is_int32, returns_int32}
 
 left : (a b : Bool) → (a && b) ≡ true → a ≡ true
 left true b h = refl
@@ -61,17 +60,10 @@ pub are_integers : (xs : List Place) → list_all is_integer xs ≡ true → All
 are_integers [] h = tt
 are_integers (x ∷ xs) h = (integer x (left (is_integer x) (list_all is_integer xs) h), are_integers xs (right (is_integer x) (list_all is_integer xs) h))
 
--- a static method's arguments are its parameters
-static_arguments : (m : Method) → m.is_static ≡ true → arguments_in (Some m) ≡ m.params
-static_arguments m h = ap (λ b. cond b m.params (drop 1 m.params)) h
-
 -- the four parts of the form, which stand in pairs from the left
 explored_first : (m : Method) → is_explored_method (Some m) ≡ true → (m.is_static && list_all is_int32 m.params) ≡ true
 explored_first m h =
     left (m.is_static && list_all is_int32 m.params) (nat_le (length m.params) 4) (left (m.is_static && list_all is_int32 m.params && nat_le (length m.params) 4) (returns_int32 m.ret) h)
-
-explored_static : (m : Method) → is_explored_method (Some m) ≡ true → m.is_static ≡ true
-explored_static m h = left m.is_static (list_all is_int32 m.params) (explored_first m h)
 
 explored_int32s : (m : Method) → is_explored_method (Some m) ≡ true → list_all is_int32 m.params ≡ true
 explored_int32s m h = right m.is_static (list_all is_int32 m.params) (explored_first m h)
@@ -79,10 +71,6 @@ explored_int32s m h = right m.is_static (list_all is_int32 m.params) (explored_f
 explored_few : (m : Method) → is_explored_method (Some m) ≡ true → nat_le (length m.params) 4 ≡ true
 explored_few m h =
     right (m.is_static && list_all is_int32 m.params) (nat_le (length m.params) 4) (left (m.is_static && list_all is_int32 m.params && nat_le (length m.params) 4) (returns_int32 m.ret) h)
-
-same_in : (entry : Option Method) → is_explored_method entry ≡ true → arguments_in entry ≡ params_in entry
-same_in None h = absurd (cc)
-same_in (Some m) h = static_arguments m (explored_static m h)
 
 integers_in : (entry : Option Method) → is_explored_method entry ≡ true → list_all is_integer (params_in entry) ≡ true
 integers_in None h = absurd (cc)
@@ -95,15 +83,12 @@ few_in (Some m) h = few_enough (length m.params) (explored_few m h)
     few_enough : (n : ℕ) → nat_le n 4 ≡ true → n ≤ 16
     few_enough n h = grind (arith, h)
 
-pub few : (program : Program) → is_explored program ≡ true → length (params_of program) ≤ 16
+pub few : (program : Program) → is_explored program ≡ true → length (arguments_of program) ≤ 16
 few program h = few_in (entry_of program) h
 
-pub integers : (program : Program) → is_explored program ≡ true → AllByRecursion IsInteger (params_of program)
-integers program h = are_integers (params_of program) (integers_in (entry_of program) h)
+pub integers : (program : Program) → is_explored program ≡ true → AllByRecursion IsInteger (arguments_of program)
+integers program h = are_integers (arguments_of program) (integers_in (entry_of program) h)
 
--- a text that is misread for the parameters is misread for the arguments
-pub misread : (program : Program) (text : List ℕ) (at : ℕ) → is_explored program ≡ true → domain_of (params_of program) text ≡ Err at → IsMisread program text at
-misread program text at form h = record {
-  read = ap (list_all is_integer) (same_in (entry_of program) form) ∙ integers_in (entry_of program) form;
-  fault = ap (λ places. domain_of places text) (same_in (entry_of program) form) ∙ h;
-}
+-- a text with a fault is misread, as all arguments are integers
+pub misread : (program : Program) (text : List ℕ) (at : ℕ) → is_explored program ≡ true → domain_of (arguments_of program) text ≡ Err at → IsMisread program text at
+misread program text at form h = record { read = integers_in (entry_of program) form; fault = h }

@@ -1,18 +1,19 @@
 -- What the bytes of a file and the text of a domain give, before anything is written.
-use Rattle.std.specs.Prelude.{◌≡◌, ◌≢◌, ℕ, ◌<◌, ◌≤◌, List, length, take, drop, Option, Some, None, Ok, Err, ◌⊎◌, map, true, false, Bool, ◌&&◌, nat_le}
+use Rattle.std.specs.Prelude.{◌≡◌, ◌≢◌, ℕ, ◌<◌, List, length, take, drop, Option, Some, None, Ok, Err, ◌⊎◌, map, true, false, Bool, ◌&&◌, nat_le}
 use Rattle.std.specs.List.{list_all}
 use Rattle.px_code.specs.declared.body.Body.{Body}
 use Rattle.px_code.specs.declared.body.BodyFault.TheVariants as body_faults
 use Rattle.px_code.specs.Body.{body_of}
 use Rattle.px_domain.specs.declared.domain.Part.{Part}
-use Rattle.px_domain.specs.Domain.{params_of, size_of}
+use Rattle.px_domain.specs.Domain.{size_of}
 use Rattle.px_domain.specs.Grammar.{domain_of}
 use Rattle.px_link.specs.declared.fault.LinkFault.TheVariants as faults
-use Rattle.px_link.specs.Link.{Blames, Reads, arguments_of}
+use Rattle.px_link.specs.Link.{Blames, Reads}
 use Rattle.px_link.specs.Raw.{ReadsRaw}
 use Rattle.px_meta.specs.Faults.{IsFaultless, IsFirstFault}
 use Rattle.px_pe.specs.Image as pe
 use Rattle.px_pe.specs.Image.{image_of}
+use Rattle.px_program.specs.Arguments.{arguments_of, is_integer}
 use Rattle.px_program.specs.Formed.{entry_of}
 use Rattle.px_program.specs.declared.program.Method.{Method}
 use Rattle.px_program.specs.declared.program.Place.{Place}
@@ -96,10 +97,6 @@ is_explored_method (Some method) = method.is_static && list_all is_int32 method.
 abbrev pub is_explored : Program → Bool
 is_explored program = is_explored_method (entry_of program)
 
-abbrev pub is_integer : Place → Bool
-is_integer (places.Ref type) = false
-is_integer _ = true
-
 -- the text of a domain is looked at where all that a run is given are integers
 abbrev pub is_read : Program → Bool
 is_read program = list_all is_integer (arguments_of program)
@@ -116,7 +113,7 @@ pub record IsMisread (program : Program) (text : List ℕ) (at : ℕ) : Type 0 w
 
 -- the method, its program or the domain is of a form that isn't explored yet
 abbrev pub IsUnsupported : Program → List ℕ → Type 0
-IsUnsupported program text = IsOtherForm program text ⊎ ((is_explored program ≡ true) × IsBeyond program (params_of program) text)
+IsUnsupported program text = IsOtherForm program text ⊎ ((is_explored program ≡ true) × IsBeyond program (arguments_of program) text)
 
 -- why a method of resolved metadata is refused, by its name: the first of these that fits
 abbrev pub RefusesNamed : View → pe.View → List ℕ → List ℕ → Refusal → Type 0
@@ -132,7 +129,7 @@ RefusesNamed v image name text _ = ⊥
 
 -- why an answer comes for a method of resolved metadata, by its name
 abbrev pub ExplainsNamed : View → pe.View → List ℕ → List ℕ → Answer → Type 0
-ExplainsNamed v image name text (answers.Found program f) = Reads v image name program × (is_explored program ≡ true) × Finds program (params_of program) text f
+ExplainsNamed v image name text (answers.Found program f) = Reads v image name program × (is_explored program ≡ true) × Finds program (arguments_of program) text f
 ExplainsNamed v image name text (answers.Refused why) = RefusesNamed v image name text why
 ExplainsNamed v image name text answers.Memory = Unit {0}
 
@@ -167,7 +164,7 @@ ExplainsMethod bytes name text answers.Memory = Unit {0}
 abbrev pub Explores : List ℕ → Target → List ℕ → Program → Findings → Type 0
 Explores bytes (targets.Raw params places) text program f = ReadsRaw bytes places.now (no_arrays places.now) program × Finds program places.now text f
 Explores bytes (targets.Method name) text program f =
-    (image : pe.View) × (v : View) × IsAssembly bytes image v × Reads v image name.now program × (is_explored program ≡ true) × Finds program (params_of program) text f
+    (image : pe.View) × (v : View) × IsAssembly bytes image v × Reads v image name.now program × (is_explored program ≡ true) × Finds program (arguments_of program) text f
 
 -- why the bytes of a file are refused, with what would be explored of it
 abbrev pub Refuses : List ℕ → Target → List ℕ → Refusal → Type 0

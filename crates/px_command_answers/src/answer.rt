@@ -1,10 +1,10 @@
 // What the bytes of a file and the text of a domain give.
 ghost use Rattle.std.specs.Prelude.{◌≡◌, ◌<◌, ◌≤◌, ◌^◌, ℕ, List, Ok, length};
 ghost use Rattle.std.specs.List.{AllByRecursion};
-ghost use Rattle.px_domain.specs.Domain.{params_of, places_of};
+ghost use Rattle.px_domain.specs.Domain.{places_of};
 ghost use Rattle.px_domain.specs.Grammar.{domain_of};
-ghost use Rattle.px_program.specs.Formed.{IsInteger};
-ghost use Rattle.px_program.specs.Formed.{IsWellFormed};
+ghost use Rattle.px_program.specs.Arguments.{arguments_of};
+ghost use Rattle.px_program.specs.Formed.{IsInteger, IsWellFormed};
 ghost use Rattle.px_command_answers.specs.Answers.{Explains, HasCause};
 ghost use Rattle.px_command_words.specs.Words.{TakesIntegers};
 
@@ -80,8 +80,8 @@ const MOST_TUPLES: u32 = 1000;
 
 // What exploring the program gives, where the domain is small enough.
 fn explored(alloc: Global, program: Verified, domain: Domain) -> Answer
-    requires { places_of domain ≡ params_of program }
-    ensures { (text : List ℕ) → domain_of (params_of program) text ≡ Ok domain → HasCause program (params_of program) text result }
+    requires { places_of domain ≡ arguments_of program }
+    ensures { (text : List ℕ) → domain_of (arguments_of program) text ≡ Ok domain → HasCause program (arguments_of program) text result }
 {
     if domain.size_within(MOST_TUPLES).is_none() {
         return Answer::Refused(Refusal::Unsupported);
@@ -96,9 +96,9 @@ fn explored(alloc: Global, program: Verified, domain: Domain) -> Answer
 pub fn told(alloc: Global, program: Program, text: &str) -> Answer
     requires formed { IsWellFormed program }
     requires text { length text.now < 2 ^ 32 }
-    requires few { length (params_of program) ≤ 16 }
-    requires integers { AllByRecursion IsInteger (params_of program) }
-    ensures { HasCause program (params_of program) text.now result }
+    requires few { length (arguments_of program) ≤ 16 }
+    requires integers { AllByRecursion IsInteger (arguments_of program) }
+    ensures { HasCause program (arguments_of program) text.now result }
 {
     let domain = match read_domain(alloc, text, &program) {
         Ok(domain) => domain,

@@ -1,8 +1,9 @@
 // What the bytes of an assembly give, with a method by its name.
 ghost use Rattle.std.specs.Prelude.{◌≡◌, ◌≢◌, ◌<◌, ◌≤◌, ◌^◌, ℕ, List, Ok, true, length};
 ghost use Rattle.px_code.specs.declared.body.BodyFault.TheVariants as body_faults;
+ghost use Rattle.px_program.specs.Arguments.{arguments_of};
 ghost use Rattle.px_program.specs.Formed.{IsWellFormed};
-ghost use Rattle.px_link.specs.Link.{Blames, Reads, arguments_of};
+ghost use Rattle.px_link.specs.Link.{Blames, Reads};
 ghost use Rattle.px_pe.specs.Image.{image_of};
 ghost use Rattle.px_pe.specs.Image as pe;
 ghost use Rattle.px_tables.specs.Metadata.{View, metadata_of};

@@ -178,10 +178,10 @@ domain_back places parts are = subst (λ ps. domain_of ps (domain_text parts) �
     by_parts (part ∷ parts) ranges = groups_back (part ∷ parts) (domain_text (part ∷ parts)) 0 ranges refl (omega arith)
 
 -- what a reading says of the domain that it gave
-pub places_from_gives : (result : Result (List Part) DomainFault) (read places : List Place) (text : List ℕ) → read ≡ places → Gives result (domain_of read text) → IfOk result (λ parts. places_of parts ≡ places)
-places_from_gives (Ok parts) read places text same gives = (domain_is read text parts gives).same ∙ same
-places_from_gives (Err fault) read places text same gives = tt
+pub places_from_gives : (result : Result (List Part) DomainFault) (places : List Place) (text : List ℕ) → Gives result (domain_of places text) → IfOk result (λ parts. places_of parts ≡ places)
+places_from_gives (Ok parts) places text gives = (domain_is places text parts gives).same
+places_from_gives (Err fault) places text gives = tt
 
-pub back_from_gives : (result : Result (List Part) DomainFault) (read places : List Place) (text : List ℕ) → read ≡ places → Gives result (domain_of read text) → IfOk result (λ parts. domain_of places (domain_text parts) ≡ Ok parts)
-back_from_gives (Ok parts) read places text same gives = ap (λ ps. domain_of ps (domain_text parts)) (sym same) ∙ domain_back read parts (domain_is read text parts gives)
-back_from_gives (Err fault) read places text same gives = tt
+pub back_from_gives : (result : Result (List Part) DomainFault) (places : List Place) (text : List ℕ) → Gives result (domain_of places text) → IfOk result (λ parts. domain_of places (domain_text parts) ≡ Ok parts)
+back_from_gives (Ok parts) places text gives = domain_back places parts (domain_is places text parts gives)
+back_from_gives (Err fault) places text gives = tt

@@ -1,22 +1,10 @@
 -- The argument words that a domain has, and its tuples by number.
-use Rattle.std.specs.Prelude.{◌≡◌, ℕ, ◌*◌, ◌/◌, ◌%◌, ◌<◌, ◌^◌, List, [], ◌∷◌, map, Option, Some, None, ◌-◌, ℤ, pos, neg_ℤ, ◌+ℤ◌, ◌-ℤ◌, ◌≤ℤ◌}
+use Rattle.std.specs.Prelude.{◌≡◌, ℕ, ◌*◌, ◌/◌, ◌%◌, ◌<◌, ◌^◌, List, [], ◌∷◌, map, ◌-◌, ℤ, pos, neg_ℤ, ◌+ℤ◌, ◌-ℤ◌, ◌≤ℤ◌}
 use Rattle.std.specs.Int.RustNames.{unsigned_abs}
 use Rattle.px_program.specs.declared.program.Place.{Place}
-use Rattle.px_program.specs.declared.program.Method.{Method}
-use Rattle.px_program.specs.declared.program.Program.{Program}
-use Rattle.px_program.specs.Formed.{entry_of}
 use Rattle.px_domain.specs.declared.domain.Part.{Part}
 use Rattle.px_domain.specs.declared.domain.Part.TheVariants.{Scalar}
 use Rattle.px_domain.specs.Place.{low_end, high_end, word_bits, number_of, word_of}
-
--- the places of a method's parameters
-abbrev pub params_in : Option Method → List Place
-params_in None = []
-params_in (Some method) = method.params
-
--- the places of the parameters of the program's entry
-abbrev pub params_of : Program → List Place
-params_of program = params_in (entry_of program)
 
 -- what a part ranges over
 abbrev pub place_of : Part → Place

@@ -11,4 +11,4 @@ mod read;
 pub use domain::{Domain, Part};
 pub use fault::DomainFault;
 pub use place::{Span, number_of, whole_of};
-pub use read::read_domain;
+pub use read::{read_domain, read_domain_for};

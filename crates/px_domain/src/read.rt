@@ -1,8 +1,9 @@
 // Reads a domain from its text.
 ghost use Rattle.std.specs.Prelude.{◌≡◌, ◌<◌, ◌≤◌, ◌^◌, length, Ok, IfOk};
 ghost use Rattle.std.specs.List.{AllByRecursion};
+ghost use Rattle.px_program.specs.Arguments.{arguments_of};
 ghost use Rattle.px_program.specs.Formed.{IsInteger};
-ghost use Rattle.px_domain.specs.Domain.{params_of, places_of};
+ghost use Rattle.px_domain.specs.Domain.{places_of};
 ghost use Rattle.px_domain.specs.Grammar.{Gives, domain_of, empty_domain, groups_at};
 ghost use Rattle.px_domain.specs.Text.{domain_text};
 
@@ -11,9 +12,23 @@ use crate::{Domain, DomainFault};
 use px_program::{Place, Program};
 use std::alloc::Global;
 
-/// Reads the domain of a program's entry from its text.
+/// Reads the domain of a program's entry from its text, as `read_domain_for` does for the places of its arguments.
+pub fn read_domain(alloc: Global, text: &str, program: &Program) -> Result<Domain, DomainFault>
+    requires short { length text.now < 2 ^ 32 }
+    requires few { length (arguments_of program.now) ≤ 16 }
+    requires integers { AllByRecursion IsInteger (arguments_of program.now) }
+    ensures exact { Gives result (domain_of (arguments_of program.now) text.now) }
+    ensures places { IfOk result (λ d. places_of d ≡ arguments_of program.now) }
+
+    // What is written of the domain is read as the same domain.
+    ensures read_back { IfOk result (λ d. domain_of (arguments_of program.now) (domain_text d) ≡ Ok d) }
+{
+    read_domain_for(alloc, text, program.arguments())
+}
+
+/// Reads a domain for arguments of these places from its text.
 ///
-/// The text is `-` where the entry has no parameters. Else there is a group for each of them, one after another without spaces:
+/// The text is `-` where there are none. Else there is a group for each of them, one after another without spaces:
 /// `(*)` for all numbers of its place, or `(LO..HI)` with two decimal numbers in order. A number has no leading zero, and `-0` is none.
 ///
 /// The text is read from left to right, and the first fault is at the first byte of
@@ -21,27 +36,17 @@ use std::alloc::Global;
 /// - the first number, where no `..` follows it, or where the second number is less;
 /// - the group, where a parenthesis is missing;
 /// - what follows the last group, or the `-`.
-pub fn read_domain(alloc: Global, text: &str, program: &Program) -> Result<Domain, DomainFault>
+pub fn read_domain_for(alloc: Global, text: &str, places: &[Place]) -> Result<Domain, DomainFault>
     requires short { length text.now < 2 ^ 32 }
-    requires few { length (params_of program.now) ≤ 16 }
-    requires integers { AllByRecursion IsInteger (params_of program.now) }
-    ensures exact { Gives result (domain_of (params_of program.now) text.now) }
-    ensures places { IfOk result (λ d. places_of d ≡ params_of program.now) }
+    requires few { length places.now ≤ 16 }
+    requires integers { AllByRecursion IsInteger places.now }
+    ensures exact { Gives result (domain_of places.now text.now) }
+    ensures places { IfOk result (λ d. places_of d ≡ places.now) }
 
     // What is written of the domain is read as the same domain.
-    ensures read_back { IfOk result (λ d. domain_of (params_of program.now) (domain_text d) ≡ Ok d) }
+    ensures read_back { IfOk result (λ d. domain_of places.now (domain_text d) ≡ Ok d) }
 {
-    read_parts(alloc, Cursor::new(text.as_bytes()), params_of(program))
-}
-
-// The places of the parameters of the program's entry.
-fn params_of(program: &Program) -> &[Place]
-    ensures { result.now ≡ params_of program.now }
-{
-    match program.methods.get(program.entry as usize) {
-        Some(method) => method.params.as_slice(),
-        None => &[],
-    }
+    read_parts(alloc, Cursor::new(text.as_bytes()), places)
 }
 
 // What stands for the parameters of these places.

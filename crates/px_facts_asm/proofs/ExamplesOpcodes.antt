@@ -1,5 +1,5 @@
 -- Instructions to what they do and back: by the opcode, the operand and the targets of what does the same in as many bytes.
-use Rattle.std.proofs.Common.{◌≡◌, ℕ, ◌+◌, List, [], ◌∷◌, refl, map, false, Option, Some, None, arith}
+use Rattle.std.proofs.Common.{◌≡◌, ℕ, ◌+◌, List, [], ◌∷◌, refl, map, Option, Some, None, arith}
 use Rattle.px_code.specs.Body.{operand_of}
 use Rattle.px_link_opcodes.specs.Opcodes.{plain_code}
 use Rattle.px_asm_opcodes.specs.Choosing.{opcode_by, operand_by}
@@ -9,7 +9,7 @@ use Rattle.px_program.specs.declared.instr.Callee.TheVariants.{Method}
 use Rattle.px_program.specs.declared.instr.Code.{Code}
 use Rattle.px_program.specs.declared.instr.Code.TheVariants.{Branch, Call, Move, Return}
 use Rattle.px_facts_link.proofs.InstrWords.{opcodes}
-use Rattle.px_program.specs.declared.instr.Move.TheVariants.{Constant}
+use Rattle.px_program.specs.declared.instr.Move.TheVariants.{Constant32}
 
 -- what an instruction does in so many bytes, as it is written: its opcode, its operand and its targets
 abbrev written : ℕ → Option Code → ℕ × ℕ × List ℕ
@@ -151,7 +151,7 @@ a_return = record {
 }
 
 -- the constant -5 in one byte
-a_constant : IsRawOf (record { offset = 3; next = 5; code = Move (Constant false 0xFFFF_FFFB) }) 0
+a_constant : IsRawOf (record { offset = 3; next = 5; code = Move (Constant32 0xFFFF_FFFB) }) 0
     (record { offset = 3; next = 5; opcode = 0x1F; operand = 0xFB; targets = [] })
 unfolding opcodes operand_of
 a_constant = record {

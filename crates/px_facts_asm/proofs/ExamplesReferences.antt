@@ -11,10 +11,9 @@ use Rattle.px_sig.specs.Grammar.{method_sig}
 use Rattle.px_asm_law_written.specs.Store.{HasSig, check_sig, constructor_sig, HasChecks, Store}
 use Rattle.px_asm_law_written.specs.Tokens.{HasConstructor}
 use Rattle.px_program.specs.declared.program.Place.TheVariants.{Ref}
-use Rattle.px_sig.specs.declared.sig.SigType.{Str}
 use Rattle.px_tables.specs.declared.tables.Row.{Row}
 use Rattle.px_facts_asm.proofs.ExampleProgram.{example}
-use Rattle.px_facts_link.proofs.SigWords.{grammar}
+use Rattle.px_facts_link.proofs.SigWords.{grammar, string}
 
 -- what holds of each element holds of all
 all_of : {X : Type 0} (Is : X → Type 0) (xs : List X) → AllByRecursion Is xs → All Is xs
@@ -73,7 +72,7 @@ sig_of_checks : HasSig method_sig store.blob 1 check_sig
 unfolding grammar
 sig_of_checks = record { blob = takes_bool; stands = takes_bool_at_1; reads = refl }
 
-sig_of_constructor : HasSig method_sig store.blob 6 (constructor_sig (Str ∷ []))
+sig_of_constructor : HasSig method_sig store.blob 6 (constructor_sig (string ∷ []))
 unfolding grammar
 sig_of_constructor = record { blob = takes_text; stands = takes_text_at_6; reads = refl }
 
@@ -97,7 +96,7 @@ the_constructor_behind_them = record {
   row = reference 17 8 6;
   there = refl;
   is = record {
-    types = Str ∷ [];
+    types = string ∷ [];
     takes = (IsText _ _ refl refl, tt);
     is = record { parent_is = refl; name_is = constructor; sig_is = sig_of_constructor; zeros = refl };
   };

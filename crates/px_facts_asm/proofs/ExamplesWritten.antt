@@ -1,5 +1,5 @@
 -- What an assembly has of a program: rows, signatures, tokens, bodies and slots.
-use Rattle.std.proofs.Common.{◌≡◌, ◌≢◌, ℕ, ◌+◌, ◌%◌, ◌^◌, [], ◌∷◌, map, refl, true, false, Option, Some, None, Ok, arith}
+use Rattle.std.proofs.Common.{◌≡◌, ℕ, ◌+◌, ◌%◌, ◌^◌, [], ◌∷◌, map, refl, true, false, Option, Some, None, Ok, arith}
 use Rattle.std.proofs.lemmas.Bool.{false≢true}
 use Rattle.px_asm_described.specs.Describes.{IsArray, IsNumber, IsOther, IsSigOf, IsText, class_token, extends_of, method_row, raw_clause, type_row}
 use Rattle.px_asm_law_relink.specs.Linked.{RunsWhole}
@@ -16,22 +16,21 @@ use Rattle.px_program.specs.declared.program.Clause.{Clause}
 use Rattle.px_program.specs.declared.program.ClauseKind.TheVariants.{Catch, Finally}
 use Rattle.px_program.specs.declared.program.Place.TheVariants as places
 use Rattle.px_program.specs.declared.program.Place.TheVariants.{Ref}
-use Rattle.px_sig.specs.Grammar.{method_sig}
+use Rattle.px_sig.specs.Grammar.{array_of, method_sig}
 use Rattle.px_sig.specs.declared.sig.Integer.TheVariants as integers
 use Rattle.px_sig.specs.declared.sig.MethodSig.{MethodSig}
-use Rattle.px_sig.specs.declared.sig.SigType.{Array, Class, Int, Str, Void}
 use Rattle.px_tables.specs.Counts.{has_bit}
 use Rattle.px_facts_asm.proofs.ExampleProgram.{abstract_method, example, half_run, overriding_method, static_method}
 use Rattle.px_facts_link.proofs.InstrWords.{opcodes}
-use Rattle.px_facts_link.proofs.SigWords.{grammar}
+use Rattle.px_facts_link.proofs.SigWords.{bool, class, grammar, int32, string, void}
 
 -- SIGNATURES of the methods: C has row 2 of TypeDef
 
 abbrev sig_of_m : MethodSig
-sig_of_m = record { has_this = false; plain = true; ret = Str; params = Array (Array (Int integers.I4)) ∷ Int integers.I4 ∷ Class 0x0200_0002 ∷ [] }
+sig_of_m = record { has_this = false; plain = true; ret = string; params = array_of (array_of int32) ∷ int32 ∷ class 0x0200_0002 ∷ [] }
 
 abbrev sig_of_n : MethodSig
-sig_of_n = record { has_this = true; plain = true; ret = Void; params = Int integers.Bool ∷ [] }
+sig_of_n = record { has_this = true; plain = true; ret = void; params = bool ∷ [] }
 
 bytes_of_the_first : method_sig (0x00 ∷ 0x03 ∷ 0x0E ∷ 0x1D ∷ 0x1D ∷ 0x08 ∷ 0x08 ∷ 0x12 ∷ 0x08 ∷ []) ≡ Ok sig_of_m
 unfolding grammar
@@ -56,7 +55,7 @@ a_static_method = record {
   ret = IsText _ _ refl refl;
 }
 
--- the receiver is no parameter: a body that takes it for one gives Class 0x0200_0002 before the bool
+-- the receiver is no parameter: a body that writes it as one gives Class 0x0200_0002 before the bool
 an_abstract_method : IsSigOf example abstract_method sig_of_n
 an_abstract_method = record { has_this = refl; plain = refl; params = (IsNumber integers.Bool _ _ refl refl, tt); ret = refl }
 

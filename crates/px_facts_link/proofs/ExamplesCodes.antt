@@ -20,11 +20,11 @@ use Rattle.px_program.specs.declared.program.Place.TheVariants as places
 use Rattle.px_program.specs.declared.program.Place.TheVariants.{Ref}
 use Rattle.px_sig.specs.declared.sig.Integer.TheVariants.{I4}
 use Rattle.px_sig.specs.declared.sig.MethodSig.{MethodSig}
-use Rattle.px_sig.specs.declared.sig.SigType.{SigType, Int, Object, Other, Void}
+use Rattle.px_sig.specs.declared.sig.SigType.{SigType}
 use Rattle.px_facts_link.proofs.CallAssembly.{calls}
 use Rattle.px_facts_link.proofs.InstrWords.{opcodes, with_number}
 use Rattle.px_facts_link.proofs.ShapeAssembly.{arrays}
-use Rattle.px_facts_link.proofs.SigWords.{folds, grammar}
+use Rattle.px_facts_link.proofs.SigWords.{grammar, int32, object, other_type, void}
 use Rattle.px_facts_link.proofs.TableWords.{tables}
 
 -- Calls has the number 18, Late 19, and arrays of int32 20; the methods are the constructor, the one of instances and the static one of Calls
@@ -46,7 +46,7 @@ a_new_array = refl
 
 an_element_that_is_loaded : Does (with_number 0xA3 0x1B00_0002) (Element false (Typed places.I4))
 unfolding grammar opcodes operand_of tables
-an_element_that_is_loaded = simp folds refl
+an_element_that_is_loaded = refl
 
 an_element_that_is_stored : Does (with_number 0xA4 0x0200_0001) (Element true (Typed (Ref 18)))
 unfolding opcodes operand_of tables
@@ -66,19 +66,19 @@ a_test_of_a_class = refl
 -- a body that takes the static fields gives record { owner = 18; index = 1 }
 a_field_that_is_loaded : Does (with_number 0x7B 0x0400_0001) (Field false (record { owner = 18; index = 0 }))
 unfolding grammar opcodes operand_of tables
-a_field_that_is_loaded = simp folds refl
+a_field_that_is_loaded = refl
 
 a_field_that_is_stored : Does (with_number 0x7D 0x0400_0003) (Field true (record { owner = 19; index = 0 }))
 unfolding grammar opcodes operand_of tables
-a_field_that_is_stored = simp folds refl
+a_field_that_is_stored = refl
 
 a_static_field_that_is_loaded : Does (with_number 0x7E 0x0400_0002) (Static false (record { owner = 18; index = 0 }))
 unfolding grammar opcodes operand_of tables
-a_static_field_that_is_loaded = simp folds refl
+a_static_field_that_is_loaded = refl
 
 a_static_field_that_is_stored : Does (with_number 0x80 0x0400_0002) (Static true (record { owner = 18; index = 0 }))
 unfolding grammar opcodes operand_of tables
-a_static_field_that_is_stored = simp folds refl
+a_static_field_that_is_stored = refl
 
 -- METHODS by their numbers
 
@@ -101,7 +101,7 @@ a_virtual_call = refl
 
 a_new_exception : Does (with_number 0x73 0x0A00_0001) (NewObject (Constructor 1 (Ref 17 ∷ [])))
 unfolding grammar opcodes operand_of tables
-a_new_exception = simp folds refl
+a_new_exception = refl
 
 -- TEXTS AND CHECKS
 
@@ -130,46 +130,46 @@ a_token_of_a_type = record { name = codes "opcode-D0"; name_is = refl; is = refl
 -- SLOTS of forms that aren't run: a method with a receiver that takes an int32 and a float, and has a float and an object as locals
 
 abbrev returning : SigType → MethodSig
-returning ret = record { has_this = true; plain = true; ret = ret; params = Int I4 ∷ Other ∷ [] }
+returning ret = record { has_this = true; plain = true; ret = ret; params = int32 ∷ other_type ∷ [] }
 
 abbrev locals : List SigType
-locals = Other ∷ Object ∷ []
+locals = other_type ∷ object ∷ []
 
 -- a body without the receiver gives false ∷ true ∷ [] for the arguments
-forms : forms_of calls (returning Other) locals ≡ record { args = false ∷ false ∷ true ∷ []; locals = true ∷ false ∷ []; ret = true }
+forms : forms_of calls (returning other_type) locals ≡ record { args = false ∷ false ∷ true ∷ []; locals = true ∷ false ∷ []; ret = true }
 unfolding grammar
-forms = simp folds refl
+forms = refl
 
-a_static_method_has_no_receiver : forms_of calls (record { has_this = false; plain = true; ret = Void; params = Other ∷ [] }) []
+a_static_method_has_no_receiver : forms_of calls (record { has_this = false; plain = true; ret = void; params = other_type ∷ [] }) []
     ≡ record { args = true ∷ []; locals = []; ret = false }
 unfolding grammar
-a_static_method_has_no_receiver = simp folds refl
+a_static_method_has_no_receiver = refl
 
 -- which of some instructions are barred where the method returns this
 abbrev barred : SigType → List Code → List Bool
 barred ret made = map (is_barred (forms_of calls (returning ret) locals)) made
 
-barred_arguments : barred Other (map (λ n. Move (Argument n)) (0 ∷ 1 ∷ 2 ∷ 3 ∷ [])) ≡ false ∷ false ∷ true ∷ false ∷ []
+barred_arguments : barred other_type (map (λ n. Move (Argument n)) (0 ∷ 1 ∷ 2 ∷ 3 ∷ [])) ≡ false ∷ false ∷ true ∷ false ∷ []
 unfolding grammar
-barred_arguments = simp folds refl
+barred_arguments = refl
 
-barred_stores_to_arguments : barred Other (map (λ n. Move (SetArgument n)) (0 ∷ 1 ∷ 2 ∷ 3 ∷ [])) ≡ false ∷ false ∷ true ∷ false ∷ []
+barred_stores_to_arguments : barred other_type (map (λ n. Move (SetArgument n)) (0 ∷ 1 ∷ 2 ∷ 3 ∷ [])) ≡ false ∷ false ∷ true ∷ false ∷ []
 unfolding grammar
-barred_stores_to_arguments = simp folds refl
+barred_stores_to_arguments = refl
 
 -- a body that goes by the arguments gives true for the third alone
-barred_locals : barred Other (map (λ n. Move (Local n)) (0 ∷ 1 ∷ 2 ∷ 3 ∷ [])) ≡ true ∷ false ∷ false ∷ false ∷ []
+barred_locals : barred other_type (map (λ n. Move (Local n)) (0 ∷ 1 ∷ 2 ∷ 3 ∷ [])) ≡ true ∷ false ∷ false ∷ false ∷ []
 unfolding grammar
-barred_locals = simp folds refl
+barred_locals = refl
 
-barred_stores_to_locals : barred Other (map (λ n. Move (SetLocal n)) (0 ∷ 1 ∷ 2 ∷ 3 ∷ [])) ≡ true ∷ false ∷ false ∷ false ∷ []
+barred_stores_to_locals : barred other_type (map (λ n. Move (SetLocal n)) (0 ∷ 1 ∷ 2 ∷ 3 ∷ [])) ≡ true ∷ false ∷ false ∷ false ∷ []
 unfolding grammar
-barred_stores_to_locals = simp folds refl
+barred_stores_to_locals = refl
 
-a_return_of_a_float : barred Other (Return ∷ Length ∷ []) ≡ true ∷ false ∷ []
+a_return_of_a_float : barred other_type (Return ∷ Length ∷ []) ≡ true ∷ false ∷ []
 unfolding grammar
-a_return_of_a_float = simp folds refl
+a_return_of_a_float = refl
 
-a_return_of_nothing : barred Void (Return ∷ []) ≡ false ∷ []
+a_return_of_nothing : barred void (Return ∷ []) ≡ false ∷ []
 unfolding grammar
-a_return_of_nothing = simp folds refl
+a_return_of_nothing = refl

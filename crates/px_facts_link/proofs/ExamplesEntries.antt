@@ -9,12 +9,12 @@ use Rattle.px_meta.specs.FullNames.{IsTypeName}
 use Rattle.px_meta.specs.Members.{owner_of}
 use Rattle.px_meta.specs.Rows.{IsRow, cell, methods, text_at}
 use Rattle.px_pe.specs.Image as pe
-use Rattle.px_sig.specs.declared.sig.Integer.TheVariants.{I4, I8}
 use Rattle.px_sig.specs.declared.sig.MethodSig.{MethodSig}
-use Rattle.px_sig.specs.declared.sig.SigType.{SigType, Array, Int, Object, Str}
+use Rattle.px_sig.specs.Grammar.{array_of}
+use Rattle.px_sig.specs.declared.sig.SigType.{SigType}
 use Rattle.px_facts_link.proofs.DemoAssembly.{demo}
 use Rattle.px_facts_link.proofs.ShopAssembly.{shop, shop_with}
-use Rattle.px_facts_link.proofs.SigWords.{folds, grammar}
+use Rattle.px_facts_link.proofs.SigWords.{grammar, int32, int64, object, string}
 use Rattle.px_facts_link.proofs.TableWords.{tables}
 
 -- NAMES
@@ -118,7 +118,7 @@ g_alone row named =
     h_is_not_g e = omega arith
 
 abbrev static : List SigType → MethodSig
-static params = record { has_this = false; plain = true; ret = Int I4; params = params }
+static params = record { has_this = false; plain = true; ret = int32; params = params }
 
 abbrev instance : SigType → MethodSig
 instance ret = record { has_this = true; plain = true; ret = ret; params = [] }
@@ -128,7 +128,7 @@ g_has_no_body : (image : pe.View) → Blames demo image (codes "Demo.T::G") NoBo
 unfolding grammar tables
 g_has_no_body image = record {
   method = 2;
-  sig = static (Int I4 ∷ []);
+  sig = static (int32 ∷ []);
   only = record { named = named_in_t 2 (codes "Demo.T::G") (record { some = omega arith; few = omega arith }) refl refl; only = g_alone };
   has_sig = refl;
   no_body = inl refl;
@@ -136,41 +136,41 @@ g_has_no_body image = record {
 
 -- PARAMETERS: the first that can't be given, of which there are sixteen
 
-sixteen_integers : first_unfit (replicate 16 (Int I4)) ≡ None
+sixteen_integers : first_unfit (replicate 16 int32) ≡ None
 unfolding grammar
 sixteen_integers = refl
 
 -- a body that takes seventeen gives None
-seventeen_integers : first_unfit (replicate 17 (Int I4)) ≡ Some 16
+seventeen_integers : first_unfit (replicate 17 int32) ≡ Some 16
 unfolding grammar
 seventeen_integers = refl
 
-integers_and_arrays_of_them : first_unfit (Int I8 ∷ Array (Int I4) ∷ []) ≡ None
-integers_and_arrays_of_them = simp folds refl
+integers_and_arrays_of_them : first_unfit (int64 ∷ array_of int32 ∷ []) ≡ None
+integers_and_arrays_of_them = refl
 
-a_text_is_no_argument : first_unfit (Str ∷ []) ≡ Some 0
+a_text_is_no_argument : first_unfit (string ∷ []) ≡ Some 0
 unfolding grammar
 a_text_is_no_argument = refl
 
-an_array_of_arrays_is_no_argument : first_unfit (Int I4 ∷ Array (Array (Int I4)) ∷ Object ∷ []) ≡ Some 1
-an_array_of_arrays_is_no_argument = simp folds refl
+an_array_of_arrays_is_no_argument : first_unfit (int32 ∷ array_of (array_of int32) ∷ object ∷ []) ≡ Some 1
+an_array_of_arrays_is_no_argument = refl
 
 -- MAKERS: constructors that take nothing and have a body
 
 -- a body that wants a maker for each method refuses it
-a_static_method_needs_no_maker : has_maker demo 1 (static (Int I4 ∷ [])) ≡ true
+a_static_method_needs_no_maker : has_maker demo 1 (static (int32 ∷ [])) ≡ true
 unfolding grammar tables
 a_static_method_needs_no_maker = refl
 
-f_of_v_has_no_maker : has_maker demo 6 (instance (Int I4)) ≡ false
+f_of_v_has_no_maker : has_maker demo 6 (instance int32) ≡ false
 unfolding grammar tables
 f_of_v_has_no_maker = refl
 
-the_maker_of_go : maker_of shop 7 (instance (Int I4)) ≡ Some 6
+the_maker_of_go : maker_of shop 7 (instance int32) ≡ Some 6
 unfolding grammar tables
 the_maker_of_go = refl
 
 -- a body that takes constructors without a body gives Some 6
-a_constructor_without_a_body_makes_nothing : maker_of (shop_with 0) 7 (instance (Int I4)) ≡ None
+a_constructor_without_a_body_makes_nothing : maker_of (shop_with 0) 7 (instance int32) ≡ None
 unfolding grammar tables
 a_constructor_without_a_body_makes_nothing = refl

@@ -3,17 +3,18 @@ use Rattle.std.proofs.Common.{◌≡◌, inr, ℕ, ◌<◌, ◌≤◌, List, [],
 use Rattle.std.specs.Prelude.{codes, slice_get}
 use Rattle.px_link.specs.Layout as layouts
 use Rattle.px_link.specs.Layout.{IsSlot, type_row}
-use Rattle.px_link.specs.Overrides.{AreOverrides}
+use Rattle.px_link.specs.Overrides.{AreOverrides, in_order}
+use Rattle.px_link_methods.specs.Codes.{Numbering}
 use Rattle.px_link_types.specs.declared.key.Leaf.TheVariants.{Library, Defined}
 use Rattle.px_meta.specs.Chains as chains
 use Rattle.px_meta.specs.Overriding as overriding
 use Rattle.px_meta.specs.Overriding.{IsNamesake, IsSaid, MayOverride, Overrides}
 use Rattle.px_meta.specs.Rows.{cell, methods, text_at}
-use Rattle.px_sig.specs.declared.sig.Integer.TheVariants.{I4}
-use Rattle.px_sig.specs.declared.sig.SigType.{Int}
+use Rattle.px_program.specs.Overriding.{AreByFirst}
 use Rattle.px_facts_link.proofs.ShopAssembly.{numbers, overriders, shop}
-use Rattle.px_facts_link.proofs.SigWords.{grammar}
+use Rattle.px_facts_link.proofs.SigWords.{grammar, int32}
 use Rattle.px_facts_link.proofs.TableWords.{tables}
+use Rattle.px_facts_link.proofs.VirtualAssembly.{virtuals}
 
 -- OVERRIDES in the program of Run, where M of Base has the number 2, and that of Derived 3
 
@@ -36,6 +37,23 @@ in_a_type_of_the_library = refl
 in_an_array : AreOverrides shop numbers overriders (2 ∷ []) 1 (Defined 2) []
 in_an_array = refl
 
+-- THEIR ORDER, by number: m of C was met before m of A, which a `callvirt` names first
+
+abbrev met : Numbering
+met = record { keys = []; rows = 3 ∷ 1 ∷ 5 ∷ [] }
+
+-- a body that leaves them as they are named gives 1 ∷ 3 ∷ []
+what_is_met_first_comes_first : in_order met.rows (1 ∷ 3 ∷ []) ≡ 3 ∷ 1 ∷ []
+what_is_met_first_comes_first = refl
+
+-- such a body gives (1, 2) ∷ (0, 2) ∷ []
+in_e : AreOverrides virtuals met ((7 ∷ 5 ∷ 6 ∷ 3 ∷ []) ∷ (9 ∷ []) ∷ (5 ∷ 6 ∷ []) ∷ []) (in_order met.rows (1 ∷ 3 ∷ [])) 0 (Defined 3) ((0, 2) ∷ (1, 2) ∷ [])
+unfolding tables
+in_e = record { behind = 2 ∷ 1 ∷ []; chain = chains.GoesOn 3 2 (1 ∷ []) refl (chains.GoesOn 2 1 [] refl (chains.Ends 1 refl)); are = refl }
+
+they_rise : AreByFirst ((0, 2) ∷ (1, 2) ∷ [])
+they_rise = (omega arith, tt)
+
 -- SLOTS of methods
 
 m_of_derived_may : MayOverride shop 4 2
@@ -45,7 +63,7 @@ m_of_derived_may = record {
   other_row = record { some = omega arith; few = omega arith };
   virtual = refl;
   other_virtual = refl;
-  sig = record { has_this = true; plain = true; ret = Int I4; params = [] };
+  sig = record { has_this = true; plain = true; ret = int32; params = [] };
   has_sig = refl;
   other_has_sig = refl;
   instance = refl;

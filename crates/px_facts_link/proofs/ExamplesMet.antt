@@ -12,7 +12,6 @@ use Rattle.px_pe.specs.Image as pe
 use Rattle.px_tables.specs.Metadata.{View}
 use Rattle.px_facts_link.proofs.ExamplesReach as reach
 use Rattle.px_facts_link.proofs.ListWords.{AtEach, at_each}
-use Rattle.px_facts_link.proofs.SigWords.{folds}
 use Rattle.px_facts_link.proofs.SquareAssembly.{bodies, image, image_with, overriders, squares, squares_with}
 
 -- METHODS THAT ARE MET: Area of Square is 1, Main 2, Sum 3, and Area of Shape 4
@@ -67,15 +66,15 @@ what_has_no_body_is_met = are_met _ _ _ _ _ (by_shape (calls_at squares image ov
 -- what virtual calls name, each once
 targets_from_main : each_once (flat_map (virtual_targets_at squares image) (2 ∷ 3 ∷ 4 ∷ 1 ∷ [])) ≡ 4 ∷ 1 ∷ []
 unfolding bodies
-targets_from_main = simp folds refl
+targets_from_main = refl
 
 targets_from_both_areas : each_once (flat_map (virtual_targets_at squares image) (4 ∷ 2 ∷ 3 ∷ 1 ∷ [])) ≡ 4 ∷ 1 ∷ []
 unfolding bodies
-targets_from_both_areas = simp folds refl
+targets_from_both_areas = refl
 
 targets_from_the_area_of_square : each_once (flat_map (virtual_targets_at squares image) (1 ∷ [])) ≡ 1 ∷ []
 unfolding bodies
-targets_from_the_area_of_square = simp folds refl
+targets_from_the_area_of_square = refl
 
 what_has_no_body_names_no_targets : each_once (flat_map (virtual_targets_at squares image) (4 ∷ [])) ≡ []
 unfolding bodies
@@ -136,23 +135,23 @@ refused_fourth v file fault are main sum shape refused = record {
 locals_of_a_method_signature : Blames squares (image_with 0x2A 2 0x11) overriders (2 ∷ []) (Bad BadHeader 8 3)
 unfolding bodies
 locals_of_a_method_signature =
-    refused_fourth squares (image_with 0x2A 2 0x11) (BadHeader, 8) (record { main = refl; sum = simp folds refl; shape = refl })
+    refused_fourth squares (image_with 0x2A 2 0x11) (BadHeader, 8) (record { main = refl; sum = refl; shape = refl })
     refl refl refl reach.locals_of_a_method_signature
 
 locals_of_no_row : Blames squares (image_with 0x2A 3 0x11) overriders (2 ∷ []) (Bad BadHeader 8 3)
 unfolding bodies
 locals_of_no_row =
-    refused_fourth squares (image_with 0x2A 3 0x11) (BadHeader, 8) (record { main = refl; sum = simp folds refl; shape = refl })
+    refused_fourth squares (image_with 0x2A 3 0x11) (BadHeader, 8) (record { main = refl; sum = refl; shape = refl })
     refl refl refl reach.locals_of_no_row
 
 locals_of_a_method : Blames squares (image_with 0x2A 1 0x06) overriders (2 ∷ []) (Bad BadHeader 8 3)
 unfolding bodies
 locals_of_a_method =
-    refused_fourth squares (image_with 0x2A 1 0x06) (BadHeader, 8) (record { main = refl; sum = simp folds refl; shape = refl })
+    refused_fourth squares (image_with 0x2A 1 0x06) (BadHeader, 8) (record { main = refl; sum = refl; shape = refl })
     refl refl refl reach.locals_of_a_method
 
 no_section_holds_area : Blames (squares_with 0x0100_206C) image overriders (2 ∷ []) (Bad Cut 0 3)
 unfolding bodies
 no_section_holds_area =
-    refused_fourth (squares_with 0x0100_206C) image (Cut, 0) (record { main = refl; sum = simp folds refl; shape = refl })
+    refused_fourth (squares_with 0x0100_206C) image (Cut, 0) (record { main = refl; sum = refl; shape = refl })
     refl refl refl reach.no_section_holds_area

@@ -20,12 +20,12 @@ use Rattle.px_program.specs.declared.program.ClauseKind.TheVariants.{Catch, Filt
 use Rattle.px_program.specs.declared.program.Place.TheVariants as places
 use Rattle.px_program.specs.declared.program.Place.TheVariants.{Ref}
 use Rattle.px_sig.specs.declared.sig.Integer.TheVariants.{I4}
-use Rattle.px_sig.specs.declared.sig.SigType.{Array, Int, Object, Other, Void}
+use Rattle.px_sig.specs.Grammar.{array_of}
 use Rattle.px_facts_link.proofs.CallAssembly.{calls}
 use Rattle.px_facts_link.proofs.ExamplesCodes.{numbers}
 use Rattle.px_facts_link.proofs.InstrWords.{alone as bare, opcodes, with_number}
 use Rattle.px_facts_link.proofs.ShapeAssembly.{arrays}
-use Rattle.px_facts_link.proofs.SigWords.{folds, grammar}
+use Rattle.px_facts_link.proofs.SigWords.{grammar, int32, object as object_type, other_type, void}
 use Rattle.px_facts_link.proofs.TableWords.{tables}
 
 -- CLAUSES by their flags
@@ -51,7 +51,7 @@ abbrev maker : Whole
 maker = record {
   body = body_of (with_number 0x73 0x0A00_0001 ∷ with_number 0x8D 0x0100_0003 ∷ with_number 0x7B 0x0400_0003 ∷ with_number 0x28 0x0600_0001 ∷ [])
       (raw 0 0x0100_0002 ∷ raw 0 0x0200_0001 ∷ raw 0 0x0100_0004 ∷ raw 2 0x0100_0002 ∷ []);
-  locals = Array (Int I4) ∷ [];
+  locals = array_of int32 ∷ [];
 }
 
 -- a body that takes Object for the class of each constructor gives object for the one behind the local
@@ -61,7 +61,7 @@ types_that_a_method_meets : met_by_all calls (1 ∷ []) (maker ∷ []) ≡
     ∷ alone (Library 1) ∷ alone (Library 17) ∷ arrays 1 (Number I4) ∷ alone (Defined 3)  -- the instructions
     ∷ alone (Library 1) ∷ alone (Defined 1) ∷ []  -- the clauses
 unfolding grammar operand_of tables
-types_that_a_method_meets = simp folds refl
+types_that_a_method_meets = refl
 
 -- METHODS
 
@@ -69,19 +69,19 @@ types_that_a_method_meets = simp folds refl
 abbrev floats : Whole
 floats = record {
   body = body_of (bare 0x02 ∷ bare 0x03 ∷ bare 0x04 ∷ bare 0x06 ∷ bare 0x07 ∷ bare 0x2A ∷ []) (raw 0 0x0100_0002 ∷ raw 0 0x0100_0004 ∷ raw 2 0 ∷ []);
-  locals = Other ∷ Object ∷ [];
+  locals = other_type ∷ object_type ∷ [];
 }
 
 abbrev instr : Code → Instr
 instr made = record { offset = 0; next = 1; code = made }
 
--- A body that takes methods of instances for static ones gives true; one that writes a single colon "Late:m"; one that goes by the arguments
--- Move (Local 0), and one that bars only returns Move (Argument 2).
+-- A body that takes methods of instances for static ones gives true; one that takes the receiver for a parameter Ref 19 before the int32; one that
+-- writes a single colon "Late:m"; one that goes by the arguments Move (Local 0), and one that bars only returns Move (Argument 2).
 a_method_of_instances : IsMethod calls numbers 7 floats (record {
   name = codes "Late::m";
   owner = 19;
   is_static = false;
-  params = Ref 19 ∷ places.I4 ∷ Ref 0 ∷ [];
+  params = places.I4 ∷ Ref 0 ∷ [];
   ret = Some (Ref 0);
   locals = Ref 0 ∷ Ref 0 ∷ [];
   max_stack = 2;
@@ -95,24 +95,24 @@ a_method_of_instances : IsMethod calls numbers 7 floats (record {
 })
 unfolding grammar opcodes tables
 a_method_of_instances = record {
-  sig = record { has_this = true; plain = true; ret = Other; params = Int I4 ∷ Other ∷ [] };
+  sig = record { has_this = true; plain = true; ret = other_type; params = int32 ∷ other_type ∷ [] };
   has_sig = refl;
   name = record { type = codes "Late"; type_is = record { outers = []; chain = chains.Ends 3 refl; is = refl }; is = refl };
   owner = refl;
   is_static = refl;
-  params = simp folds refl;
-  ret = simp folds refl;
-  locals = simp folds refl;
+  params = refl;
+  ret = refl;
+  locals = refl;
   max_stack = refl;
   code = (
     record { offset = refl; next = refl; code = refl },
     (
-      record { offset = refl; next = refl; code = simp folds refl },
+      record { offset = refl; next = refl; code = refl },
       (
-        record { offset = refl; next = refl; code = simp folds refl },
+        record { offset = refl; next = refl; code = refl },
         (
-          record { offset = refl; next = refl; code = simp folds refl },
-          (record { offset = refl; next = refl; code = simp folds refl }, (record { offset = refl; next = refl; code = simp folds refl }, tt)),
+          record { offset = refl; next = refl; code = refl },
+          (record { offset = refl; next = refl; code = refl }, (record { offset = refl; next = refl; code = refl }, tt)),
         ),
       ),
     ),
@@ -134,7 +134,7 @@ a_static_method : IsMethod calls numbers 1 (record { body = body_of (bare 0x00 �
 })
 unfolding grammar opcodes tables
 a_static_method = record {
-  sig = record { has_this = false; plain = true; ret = Void; params = [] };
+  sig = record { has_this = false; plain = true; ret = void; params = [] };
   has_sig = refl;
   name = record { type = codes "Calls"; type_is = record { outers = []; chain = chains.Ends 1 refl; is = refl }; is = refl };
   owner = refl;

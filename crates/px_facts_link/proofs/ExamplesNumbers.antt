@@ -14,7 +14,7 @@ use Rattle.px_program.specs.declared.program.TypeInfo.{TypeInfo}
 use Rattle.px_sig.specs.declared.sig.Integer.TheVariants.{I4}
 use Rattle.px_facts_link.proofs.ShapeAssembly.{arrays, shapes}
 use Rattle.px_facts_link.proofs.ExamplesTypes.{no_type_derives_from_string, own_types_of_base, own_types_of_inner, own_types_of_shape}
-use Rattle.px_facts_link.proofs.SigWords.{folds, grammar}
+use Rattle.px_facts_link.proofs.SigWords.{grammar}
 use Rattle.px_facts_link.proofs.TableWords.{tables}
 
 -- NUMBERS of types, each as it is first met
@@ -92,8 +92,8 @@ shape = record {
   name = record { outers = []; chain = chains.Ends 1 refl; is = refl };
   base = refl;
   element = refl;
-  fields = simp folds refl;
-  statics = simp folds refl;
+  fields = refl;
+  statics = refl;
   no_overrides = refl;
 }
 
@@ -103,7 +103,7 @@ base = record {
   name = record { outers = []; chain = chains.Ends 2 refl; is = refl };
   base = refl;
   element = refl;
-  fields = simp folds refl;
+  fields = refl;
   statics = refl;
   no_overrides = refl;
 }
@@ -115,7 +115,7 @@ inner = record {
   name = record { outers = 2 ∷ []; chain = chains.GoesOn 3 2 [] refl (chains.Ends 2 refl); is = refl };
   base = refl;
   element = refl;
-  fields = simp folds refl;
+  fields = refl;
   statics = refl;
   no_overrides = refl;
 }

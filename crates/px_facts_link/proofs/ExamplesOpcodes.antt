@@ -7,7 +7,7 @@ use Rattle.px_program.specs.declared.instr.Code.TheVariants.{Nop, Move, Arithmet
 use Rattle.px_program.specs.declared.instr.Division.TheVariants.{Quotient, Remainder}
 use Rattle.px_program.specs.declared.instr.ElementForm.TheVariants.{Integer, Reference}
 use Rattle.px_program.specs.declared.instr.IntegerType.TheVariants.{I1, U1, I2, U2, I4, U4, I8, U8, N, UN}
-use Rattle.px_program.specs.declared.instr.Move.TheVariants.{Argument, SetArgument, Local, SetLocal, Constant, Null, Duplicate, Pop}
+use Rattle.px_program.specs.declared.instr.Move.TheVariants.{Argument, SetArgument, Local, SetLocal, Constant32, Constant64, Null, Duplicate, Pop}
 use Rattle.px_program.specs.declared.instr.Shift.TheVariants.{Left, Right, RightUnsigned}
 use Rattle.px_program.specs.declared.instr.Test.TheVariants.{Eq, Gt, Lt}
 use Rattle.px_program.specs.declared.instr.Unary.TheVariants.{Negate, Complement}
@@ -71,7 +71,7 @@ null_and_moves_on_the_stack = refl
 -- CONSTANTS as patterns of 32 or 64 bits
 
 abbrev patterns : List ℕ → List Code
-patterns numbers = map (λ pattern. Move (Constant false pattern)) numbers
+patterns numbers = map (λ pattern. Move (Constant32 pattern)) numbers
 
 minus_one_to_eight : each (0x15 ∷ 0x16 ∷ 0x17 ∷ 0x18 ∷ 0x19 ∷ 0x1A ∷ 0x1B ∷ 0x1C ∷ 0x1D ∷ 0x1E ∷ [])
     ≡ patterns (4294967295 ∷ 0 ∷ 1 ∷ 2 ∷ 3 ∷ 4 ∷ 5 ∷ 6 ∷ 7 ∷ 8 ∷ [])
@@ -89,7 +89,7 @@ unfolding opcodes
 constants_of_four_bytes = refl
 
 constants_of_eight_bytes : map (λ number. does (with_number 0x21 number)) (1 ∷ 0x100000000 ∷ 0xFFFFFFFFFFFFFFFE ∷ [])
-    ≡ Move (Constant true 1) ∷ Move (Constant true 4294967296) ∷ Move (Constant true 18446744073709551614) ∷ []
+    ≡ Move (Constant64 1) ∷ Move (Constant64 4294967296) ∷ Move (Constant64 18446744073709551614) ∷ []
 unfolding opcodes
 constants_of_eight_bytes = refl
 

@@ -8,7 +8,7 @@ use Rattle.px_program.specs.declared.instr.Check.TheVariants.{Assume}
 use Rattle.px_sig.specs.declared.sig.Integer.TheVariants.{I4}
 use Rattle.px_facts_link.proofs.CallAssembly.{calls}
 use Rattle.px_facts_link.proofs.ShapeAssembly.{arrays}
-use Rattle.px_facts_link.proofs.SigWords.{folds, grammar}
+use Rattle.px_facts_link.proofs.SigWords.{grammar}
 use Rattle.px_facts_link.proofs.TableWords.{tables}
 
 -- TEXTS of `ldstr`, which have one byte behind their code units
@@ -39,7 +39,7 @@ an_array_of_int32_by_its_name = refl
 
 an_array_of_arrays : operand_of calls 0x8D 0x1B00_0001 ≡ Some (operand.Type (arrays 2 (Number I4)))
 unfolding operand_of grammar tables
-an_array_of_arrays = simp folds refl
+an_array_of_arrays = refl
 
 no_array_of_a_type_of_another_assembly : operand_of calls 0x8D 0x0100_0004 ≡ None
 unfolding operand_of tables
@@ -52,7 +52,7 @@ no_array_of_an_interface = refl
 -- a body that takes a class that isn't known for Object gives Type (arrays 2 (Library 0))
 no_array_of_arrays_of_such_a_type : operand_of calls 0x8D 0x1B00_0003 ≡ None
 unfolding operand_of grammar tables
-no_array_of_arrays_of_such_a_type = simp folds refl
+no_array_of_arrays_of_such_a_type = refl
 
 -- of elements that `ldelem` and `stelem` reach
 
@@ -62,7 +62,7 @@ elements_of_the_library = refl
 
 elements_that_are_int32 : operand_of calls 0xA4 0x1B00_0002 ≡ Some (operand.Type (alone (Number I4)))
 unfolding operand_of grammar tables
-elements_that_are_int32 = simp folds refl
+elements_that_are_int32 = refl
 
 -- of objects that `castclass` and `isinst` look at: an integer is none
 
@@ -72,7 +72,7 @@ a_cast_to_a_class = refl
 
 a_test_for_an_array : operand_of calls 0x75 0x1B00_0001 ≡ Some (operand.Type (arrays 1 (Number I4)))
 unfolding operand_of grammar tables
-a_test_for_an_array = simp folds refl
+a_test_for_an_array = refl
 
 no_cast_to_an_interface : operand_of calls 0x74 0x0200_0002 ≡ None
 unfolding operand_of tables
@@ -80,7 +80,7 @@ no_cast_to_an_interface = refl
 
 no_test_for_an_integer : operand_of calls 0x75 0x1B00_0002 ≡ None
 unfolding operand_of grammar tables
-no_test_for_an_integer = simp folds refl
+no_test_for_an_integer = refl
 
 no_cast_to_an_integer_by_its_name : operand_of calls 0x74 0x0100_0003 ≡ None
 unfolding operand_of tables
@@ -90,11 +90,11 @@ no_cast_to_an_integer_by_its_name = refl
 
 a_field : operand_of calls 0x7B 0x0400_0001 ≡ Some (operand.Field 1)
 unfolding operand_of grammar tables
-a_field = simp folds refl
+a_field = refl
 
 a_field_of_a_type_with_an_initialiser : operand_of calls 0x7D 0x0400_0003 ≡ Some (operand.Field 3)
 unfolding operand_of grammar tables
-a_field_of_a_type_with_an_initialiser = simp folds refl
+a_field_of_a_type_with_an_initialiser = refl
 
 no_static_field_as_one_of_instances : operand_of calls 0x7B 0x0400_0002 ≡ None
 unfolding operand_of grammar tables
@@ -108,12 +108,12 @@ no_field_of_instances_as_a_static_one = refl
 
 a_static_field : operand_of calls 0x80 0x0400_0002 ≡ Some (operand.Field 2)
 unfolding operand_of grammar tables
-a_static_field = simp folds refl
+a_static_field = refl
 
 -- a body that runs on where the type would be initialised gives Some (operand.Field 4), and so does one that looks for it in the type before
 no_static_field_of_a_type_with_an_initialiser : operand_of calls 0x7E 0x0400_0004 ≡ None
 unfolding operand_of grammar tables
-no_static_field_of_a_type_with_an_initialiser = simp folds refl
+no_static_field_of_a_type_with_an_initialiser = refl
 
 -- METHODS: that `call` names
 
@@ -160,12 +160,12 @@ no_static_method_that_makes_an_object = refl
 -- a body that leaves out exceptions gives None
 an_exception_with_a_text : operand_of calls 0x73 0x0A00_0001 ≡ Some (operand.Constructor 1 (alone (Library 17) ∷ []))
 unfolding operand_of grammar tables
-an_exception_with_a_text = simp folds refl
+an_exception_with_a_text = refl
 
 -- a body that gives Object the constructors of exceptions gives Constructor 0 (alone (Library 17) ∷ [])
 object_takes_no_text : operand_of calls 0x73 0x0A00_0002 ≡ None
 unfolding operand_of grammar tables
-object_takes_no_text = simp folds refl
+object_takes_no_text = refl
 
 no_constructor_of_another_assembly : operand_of calls 0x73 0x0A00_0003 ≡ None
 unfolding operand_of grammar tables

@@ -8,16 +8,15 @@ use Rattle.px_meta.specs.Members.{owner_of}
 use Rattle.px_meta.specs.Overriding as overriding
 use Rattle.px_meta.specs.Overriding.{IsNamesake, IsSaid, MayOverride, Overrides}
 use Rattle.px_meta.specs.Rows.{IsRow, cell, method_impls, methods, row_by}
-use Rattle.px_sig.specs.declared.sig.Integer.TheVariants.{I4}
 use Rattle.px_sig.specs.declared.sig.MethodSig.{MethodSig}
-use Rattle.px_sig.specs.declared.sig.SigType.{SigType, Int, Void}
-use Rattle.px_facts_link.proofs.SigWords.{grammar}
+use Rattle.px_sig.specs.declared.sig.SigType.{SigType}
+use Rattle.px_facts_link.proofs.SigWords.{grammar, int32, void}
 use Rattle.px_facts_link.proofs.TableWords.{tables}
 use Rattle.px_facts_link.proofs.VirtualAssembly.{virtuals}
 
 -- an instance method with these parameters that returns nothing
 abbrev takes : List SigType → MethodSig
-takes params = record { has_this = true; plain = true; ret = Void; params = params }
+takes params = record { has_this = true; plain = true; ret = void; params = params }
 
 is_method : (row : ℕ) → 1 ≤ row → row ≤ 9 → IsRow virtuals methods row
 is_method row some few = record { some = some; few = few }
@@ -97,7 +96,7 @@ p_of_d_may = record {
   other_row = is_method 2 (omega arith) (omega arith);
   virtual = refl;
   other_virtual = refl;
-  sig = takes (Int I4 ∷ []);
+  sig = takes (int32 ∷ []);
   has_sig = refl;
   other_has_sig = refl;
   instance = refl;

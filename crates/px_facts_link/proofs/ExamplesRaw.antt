@@ -1,5 +1,5 @@
 -- Programs of raw bodies.
-use Rattle.std.proofs.Common.{◌≡◌, ℕ, List, [], ◌∷◌, ◌++◌, refl, ap, true, false, Some, None, arith}
+use Rattle.std.proofs.Common.{◌≡◌, ℕ, List, [], ◌∷◌, ◌++◌, map, refl, ap, true, false, Some, None, arith}
 use Rattle.std.specs.Prelude.{Err, Ok, Result, codes}
 use Rattle.px_code.specs.Body.{body_of}
 use Rattle.px_code.specs.Reading.{PlacedFault}
@@ -8,11 +8,12 @@ use Rattle.px_link.specs.Link.{BlamesRaw}
 use Rattle.px_link.specs.Raw.{ReadsRaw}
 use Rattle.px_link.specs.declared.fault.RawFault.TheVariants.{RawLocals}
 use Rattle.px_program.specs.Alone.{array_of, no_layout}
+use Rattle.px_program.specs.Arguments.{AreGiven, can_be_given}
 use Rattle.px_program.specs.Library.{library_types}
 use Rattle.px_program.specs.declared.instr.Code.{Code}
 use Rattle.px_program.specs.declared.instr.Code.TheVariants.{BranchCompare, Move, Nop, Return}
 use Rattle.px_program.specs.declared.instr.Instr.{Instr}
-use Rattle.px_program.specs.declared.instr.Move.TheVariants.{Argument, Constant}
+use Rattle.px_program.specs.declared.instr.Move.TheVariants.{Argument, Constant32}
 use Rattle.px_program.specs.declared.instr.Test.TheVariants.{Eq}
 use Rattle.px_program.specs.declared.program.Clause.{Clause}
 use Rattle.px_program.specs.declared.program.ClauseKind.{ClauseKind}
@@ -28,7 +29,7 @@ abbrev instr : ℕ → ℕ → Code → Instr
 instr offset next made = record { offset = offset; next = next; code = made }
 
 abbrev constant : ℕ → Code
-constant pattern = Move (Constant false pattern)
+constant pattern = Move (Constant32 pattern)
 
 -- the program of a static method that returns an int32, over these types
 abbrev program : List TypeInfo → List Place → List Instr → List Clause → Program
@@ -66,6 +67,14 @@ arrays_as_parameters : ReadsRaw (0x0A ∷ 0x16 ∷ 0x2A ∷ []) (I4 ∷ U1 ∷ I
     (program (library_types ++ array_of I4 ∷ array_of U1 ∷ []) (Ref 18 ∷ Ref 19 ∷ I8 ∷ Ref 18 ∷ []) (instr 0 1 (constant 0) ∷ instr 1 2 Return ∷ []) [])
 unfolding bodies opcodes
 arrays_as_parameters = record { body = _; read = refl; no_locals = refl; same = refl }
+
+-- they are what can be given
+arrays_are_given : AreGiven (library_types ++ array_of I4 ∷ array_of U1 ∷ []) (Ref 18 ∷ Ref 19 ∷ I8 ∷ Ref 18 ∷ [])
+arrays_are_given = record { few = omega arith; each = refl }
+
+-- what isn't: a text, an array of arrays, and a type that isn't there; a body that takes each array gives true for the second
+what_is_not_given : map (can_be_given (library_types ++ array_of I4 ∷ array_of (Ref 18) ∷ [])) (Ref 17 ∷ Ref 19 ∷ Ref 20 ∷ []) ≡ false ∷ false ∷ false ∷ []
+what_is_not_given = refl
 
 -- CLAUSES: three `nop` and `ret`, with a catch of 0..1 by 1..4, a filter of 0..1 by 1..2, a finally of 0..2 by 2..3 and a fault of 1..2 by 2..4
 

@@ -3,9 +3,7 @@ use Rattle.std.proofs.Common.{◌≡◌, [], ◌∷◌, refl, map, false, Ok, Er
 use Rattle.px_code.specs.declared.body.BodyKind.TheVariants.{BadHeader, BadOpcode, Cut}
 use Rattle.px_link_reach.specs.Bodies.{whole_at}
 use Rattle.px_link_reach.specs.Met.{calls_at, virtual_targets_at}
-use Rattle.px_sig.specs.declared.sig.Integer.TheVariants.{I4}
-use Rattle.px_sig.specs.declared.sig.SigType.{Int, Str}
-use Rattle.px_facts_link.proofs.SigWords.{folds}
+use Rattle.px_facts_link.proofs.SigWords.{int32, string}
 use Rattle.px_facts_link.proofs.SquareAssembly.{bodies, image, image_with, overriders, squares, squares_with}
 
 -- BODIES with the types of their locals
@@ -22,7 +20,7 @@ area_of_square : whole_at squares image 1 ≡ Ok (record {
         ∷ [];
     clauses = [];
   };
-  locals = Int I4 ∷ Str ∷ [];
+  locals = int32 ∷ string ∷ [];
 })
 unfolding bodies
 area_of_square = refl
@@ -67,11 +65,11 @@ main_calls_sum = refl
 -- a body that leaves out what overrides gives 3 ∷ 4 ∷ 4 ∷ [], and so does one that adds it to plain calls
 pub sum_calls_itself_and_all_areas : calls_at squares image overriders 3 ≡ 3 ∷ 4 ∷ 1 ∷ 4 ∷ 1 ∷ []
 unfolding bodies
-sum_calls_itself_and_all_areas = simp folds refl
+sum_calls_itself_and_all_areas = refl
 
 pub area_of_square_calls_itself : calls_at squares image overriders 1 ≡ 1 ∷ []
 unfolding bodies
-area_of_square_calls_itself = simp folds refl
+area_of_square_calls_itself = refl
 
 -- a body that passes over new objects gives []
 make_calls_a_constructor : calls_at squares image overriders 6 ≡ 7 ∷ []
@@ -84,4 +82,4 @@ what_has_no_body_calls_nothing = refl
 
 only_virtual_calls_name_targets : map (virtual_targets_at squares image) (1 ∷ 2 ∷ 3 ∷ 6 ∷ []) ≡ (1 ∷ []) ∷ [] ∷ (4 ∷ 4 ∷ []) ∷ [] ∷ []
 unfolding bodies
-only_virtual_calls_name_targets = simp folds refl
+only_virtual_calls_name_targets = refl

@@ -4,9 +4,9 @@ use Rattle.px_link_types.specs.Keys.{alone, class_of, is_class, key_of, object, 
 use Rattle.px_link_types.specs.Numbers.{instance_fields, own_types, static_fields}
 use Rattle.px_link_types.specs.declared.key.Leaf.TheVariants.{Number, Library, Defined}
 use Rattle.px_sig.specs.declared.sig.Integer.TheVariants.{I4}
-use Rattle.px_sig.specs.declared.sig.SigType.{Void, Int, Str, Object, Class, Array, Other}
+use Rattle.px_sig.specs.Grammar.{array_of}
 use Rattle.px_facts_link.proofs.ShapeAssembly.{arrays, shapes}
-use Rattle.px_facts_link.proofs.SigWords.{folds, grammar}
+use Rattle.px_facts_link.proofs.SigWords.{class, grammar, int32, object as object_type, other_type, string, void}
 use Rattle.px_facts_link.proofs.TableWords.{tables}
 
 -- CLASSES that tokens name: of the library
@@ -59,31 +59,31 @@ classes_by_their_rows = refl
 
 -- TYPES OF SIGNATURES
 
-types_without_a_class : map (key_of shapes) (Int I4 ∷ Str ∷ Object ∷ [])
+types_without_a_class : map (key_of shapes) (int32 ∷ string ∷ object_type ∷ [])
     ≡ Some (alone (Number I4)) ∷ Some (alone (Library 17)) ∷ Some (alone (Library 0)) ∷ []
 unfolding tables
-types_without_a_class = simp folds refl
+types_without_a_class = refl
 
-a_class_of_the_assembly : key_of shapes (Class 0x0200_0002) ≡ Some (alone (Defined 2))
+a_class_of_the_assembly : key_of shapes (class 0x0200_0002) ≡ Some (alone (Defined 2))
 unfolding tables
-a_class_of_the_assembly = simp folds refl
+a_class_of_the_assembly = refl
 
 -- a body that takes what isn't known for a string gives Some (alone (Library 17))
-what_is_not_known_is_an_object : map (key_of shapes) (Class 0x0100_0004 ∷ Class 0x0200_0005 ∷ []) ≡ Some object ∷ Some object ∷ []
+what_is_not_known_is_an_object : map (key_of shapes) (class 0x0100_0004 ∷ class 0x0200_0005 ∷ []) ≡ Some object ∷ Some object ∷ []
 unfolding tables
-what_is_not_known_is_an_object = simp folds refl
+what_is_not_known_is_an_object = refl
 
-arrays_in_arrays : key_of shapes (Array (Array (Int I4))) ≡ Some (arrays 2 (Number I4))
+arrays_in_arrays : key_of shapes (array_of (array_of int32)) ≡ Some (arrays 2 (Number I4))
 unfolding tables
-arrays_in_arrays = simp folds refl
+arrays_in_arrays = refl
 
-forms_that_are_not_run : map (key_of shapes) (Void ∷ Other ∷ Array Other ∷ []) ≡ None ∷ None ∷ None ∷ []
+forms_that_are_not_run : map (key_of shapes) (void ∷ other_type ∷ array_of other_type ∷ []) ≡ None ∷ None ∷ None ∷ []
 unfolding tables
-forms_that_are_not_run = simp folds refl
+forms_that_are_not_run = refl
 
-their_places_are_objects : map (place_key shapes) (Other ∷ Array Other ∷ Str ∷ []) ≡ object ∷ object ∷ alone (Library 17) ∷ []
+their_places_are_objects : map (place_key shapes) (other_type ∷ array_of other_type ∷ string ∷ []) ≡ object ∷ object ∷ alone (Library 17) ∷ []
 unfolding tables
-their_places_are_objects = simp folds refl
+their_places_are_objects = refl
 
 -- WHAT A TYPE LEADS TO: the element of an array, and else its base and what its fields hold, the static ones last
 
@@ -103,15 +103,15 @@ static_fields_of_shape = refl
 pub own_types_of_shape : own_types shapes (alone (Defined 1))
     ≡ alone (Defined 2) ∷ alone (Defined 3) ∷ object ∷ arrays 1 (Library 17) ∷ object ∷ arrays 2 (Number I4) ∷ []
 unfolding grammar tables
-own_types_of_shape = simp folds refl
+own_types_of_shape = refl
 
 pub own_types_of_base : own_types shapes (alone (Defined 2)) ≡ object ∷ object ∷ alone (Defined 1) ∷ []
 unfolding grammar tables
-own_types_of_base = simp folds refl
+own_types_of_base = refl
 
 pub own_types_of_inner : own_types shapes (alone (Defined 3)) ≡ alone (Library 1) ∷ alone (Number I4) ∷ []
 unfolding grammar tables
-own_types_of_inner = simp folds refl
+own_types_of_inner = refl
 
 -- a body that lets types derive from String gives alone (Library 17)
 pub no_type_derives_from_string : own_types shapes (alone (Defined 6)) ≡ object ∷ []

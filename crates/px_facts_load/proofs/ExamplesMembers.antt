@@ -4,7 +4,6 @@ use Rattle.std.specs.Prelude.{◌==◌, codes, length, not, slice_index}
 use Rattle.std.proofs.lemmas.Bool.{false≢true}
 use Rattle.px_blobs.proofs.Texts.{text_stands}
 use Rattle.px_sig.specs.declared.sig.MethodSig.{MethodSig}
-use Rattle.px_sig.specs.declared.sig.SigType.{Void}
 use Rattle.px_tables.specs.Metadata.{View}
 use Rattle.px_meta.specs.Chains.{Ends, GoesOn, HasEnd, IsChain, base_in}
 use Rattle.px_meta.specs.Faults.{Bases, Blames, HasLists, HasNames, IsFaultless}
@@ -17,7 +16,7 @@ use Rattle.px_meta.specs.declared.fault.MetaKind.TheVariants.{BadList, CycleOfBa
 use Rattle.px_meta.proofs.Blame.{blamed, chain_blamed, clean_types, list_blamed, sound_all, sound_none, table_blamed}
 use Rattle.px_meta.proofs.Overridden.{one_overridden, overrides_may}
 use Rattle.px_facts_load.proofs.FileWords.{zeros}
-use Rattle.px_facts_load.proofs.SignatureWords.{grammar, instance}
+use Rattle.px_facts_load.proofs.SignatureWords.{grammar, void, instance}
 use Rattle.px_facts_load.proofs.TableWords.{tables}
 
 -- HOW THE ASSEMBLIES ARE WRITTEN
@@ -159,7 +158,7 @@ the_same_name =
           other_row = record { some = lit≤ tt; few = lit≤ tt };
           virtual = refl;
           other_virtual = refl;
-          sig = instance Void [];
+          sig = instance void [];
           has_sig = refl;
           other_has_sig = refl;
           instance = refl;
@@ -220,7 +219,7 @@ the_first_row_counts = inl (record { row = 1; said = said; first = none_before }
           other_row = record { some = lit≤ tt; few = lit≤ tt };
           virtual = refl;
           other_virtual = refl;
-          sig = instance Void [];
+          sig = instance void [];
           has_sig = refl;
           other_has_sig = refl;
           instance = refl;

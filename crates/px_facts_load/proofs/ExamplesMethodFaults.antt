@@ -160,7 +160,7 @@ a_function_of_an_unknown_kind : method_sig (0x00 ∷ 0x01 ∷ 0x01 ∷ 0x1B ∷ 
 unfolding grammar
 a_function_of_an_unknown_kind = refl
 
--- a reader that forgets the return type of the function gives Ok (static Void (Other ∷ []))
+-- a reader that forgets the return type of the function gives Ok (static void (other_type ∷ []))
 a_function_without_its_parameter : method_sig (0x00 ∷ 0x01 ∷ 0x01 ∷ 0x1B ∷ 0x00 ∷ 0x01 ∷ 0x01 ∷ []) ≡ Err 7
 unfolding grammar
 a_function_without_its_parameter = refl

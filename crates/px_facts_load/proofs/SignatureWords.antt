@@ -1,55 +1,72 @@
 -- How the facts write types and signatures.
-use Rattle.std.specs.Prelude.{true, false, List}
-use Rattle.px_sig.specs.Grammar.{byte_at, byte_where, form_at, form_of, front_at, generic_at, method_at, number_at, numbers_at, shape_at, token_at, token_of, type_behind}
+use Rattle.std.specs.Prelude.{true, false, ℕ, List}
+use Rattle.px_sig.specs.Grammar.{byte_at, byte_where, form_at, form_of, front_at, generic_at, method_at, number_at, numbers_at, plain_type, shape_at, token_at, token_of, type_behind}
 use Rattle.px_sig.specs.declared.sig.Integer.TheVariants as integers
 use Rattle.px_sig.specs.declared.sig.MethodSig.{MethodSig}
-use Rattle.px_sig.specs.declared.sig.SigType.{SigType, Int, Class}
+use Rattle.px_sig.specs.declared.sig.SigLeaf.TheVariants as leaves
+use Rattle.px_sig.specs.declared.sig.SigType.{SigType}
+
+abbrev pub void : SigType
+void = plain_type leaves.Void
+
+abbrev pub string : SigType
+string = plain_type leaves.Str
+
+abbrev pub object : SigType
+object = plain_type leaves.Object
+
+abbrev pub other_type : SigType
+other_type = plain_type leaves.Other
 
 abbrev pub bool : SigType
-bool = Int integers.Bool
+bool = plain_type (leaves.Int integers.Bool)
 
 abbrev pub char : SigType
-char = Int integers.Char
+char = plain_type (leaves.Int integers.Char)
 
 abbrev pub int8 : SigType
-int8 = Int integers.I1
+int8 = plain_type (leaves.Int integers.I1)
 
 abbrev pub uint8 : SigType
-uint8 = Int integers.U1
+uint8 = plain_type (leaves.Int integers.U1)
 
 abbrev pub int16 : SigType
-int16 = Int integers.I2
+int16 = plain_type (leaves.Int integers.I2)
 
 abbrev pub uint16 : SigType
-uint16 = Int integers.U2
+uint16 = plain_type (leaves.Int integers.U2)
 
 abbrev pub int32 : SigType
-int32 = Int integers.I4
+int32 = plain_type (leaves.Int integers.I4)
 
 abbrev pub uint32 : SigType
-uint32 = Int integers.U4
+uint32 = plain_type (leaves.Int integers.U4)
 
 abbrev pub int64 : SigType
-int64 = Int integers.I8
+int64 = plain_type (leaves.Int integers.I8)
 
 abbrev pub uint64 : SigType
-uint64 = Int integers.U8
+uint64 = plain_type (leaves.Int integers.U8)
 
 abbrev pub nint : SigType
-nint = Int integers.N
+nint = plain_type (leaves.Int integers.N)
 
 abbrev pub nuint : SigType
-nuint = Int integers.UN
+nuint = plain_type (leaves.Int integers.UN)
 
--- classes by their tokens, in rows of TypeRef and TypeDef
+-- a class by its token
+abbrev pub class : ℕ → SigType
+class token = plain_type (leaves.Class token)
+
+-- in rows of TypeRef and TypeDef
 abbrev pub reference_2 : SigType
-reference_2 = Class 0x0100_0002
+reference_2 = class 0x0100_0002
 
 abbrev pub definition_1 : SigType
-definition_1 = Class 0x0200_0001
+definition_1 = class 0x0200_0001
 
 abbrev pub definition_2 : SigType
-definition_2 = Class 0x0200_0002
+definition_2 = class 0x0200_0002
 
 -- the signature of a method without a receiver, by its return type and its parameters
 abbrev pub static : SigType → List SigType → MethodSig

@@ -2,7 +2,7 @@
 use Rattle.std.proofs.Common.{◌≡◌, List, [], ◌∷◌, ◌++◌, true, ℕ, zero, suc, ◌*◌, ◌^◌, Some, None, refl}
 use Rattle.px_program.specs.declared.instr.Code.TheVariants as codes
 use Rattle.px_program.specs.declared.instr.Instr.{Instr}
-use Rattle.px_program.specs.declared.instr.Move.TheVariants.{Constant}
+use Rattle.px_program.specs.declared.instr.Move.TheVariants.{Constant64}
 use Rattle.px_program.specs.declared.instr.Test.TheVariants.{Lt}
 use Rattle.px_program.specs.declared.program.Place.TheVariants.{I4, I8}
 use Rattle.px_program.specs.declared.program.Program.{Program}
@@ -10,7 +10,7 @@ use Rattle.px_program.specs.Alone.{alone}
 use Rattle.px_program.specs.Formed.{instr_at}
 use Rattle.px_verify.specs.Simple.{fault_of, is_fine}
 use Rattle.px_facts_run.proofs.Methods as methods
-use Rattle.px_facts_run.proofs.Methods.{Sized, laid_from, method_of}
+use Rattle.px_facts_run.proofs.Methods.{Sized, instance_of, laid_from, method_of}
 
 -- THE PROGRAMS
 -- Each instruction has the size of its shortest form.
@@ -26,7 +26,7 @@ ldc pattern = (1, methods.ldc pattern)
 
 -- a constant of 64 bits
 abbrev ldc_wide : ℕ → Sized
-ldc_wide pattern = (9, codes.Move (Constant true pattern))
+ldc_wide pattern = (9, codes.Move (Constant64 pattern))
 
 abbrev add : Sized
 add = (1, methods.add)
@@ -56,6 +56,10 @@ outside = (2, codes.Outside [] 0xfe00)
 -- the program of a method with the parameters `int32`, `int32` and `int64`
 abbrev program_of : List Sized → Program
 program_of rows = alone (I4 ∷ []) (method_of (I4 ∷ I4 ∷ I8 ∷ []) (laid_from 0 rows))
+
+-- the program of an instance method of `String` with the parameters `int32` and `int64`
+abbrev in_string : List Sized → Program
+in_string rows = alone [] (instance_of 17 (I4 ∷ I8 ∷ []) (laid_from 0 rows))
 
 -- METHODS THAT ARE SIMPLE
 
@@ -121,9 +125,27 @@ a_wide_constant : fault_of (program_of (ldc_wide 5 ∷ ret ∷ [])) ≡ Some 0
 unfolding is_fine
 a_wide_constant = refl
 
-a_pattern_of_33_bits : fault_of (program_of (ldc (2 ^ 32) ∷ ret ∷ [])) ≡ Some 0
+a_pattern_of_33_bits : fault_of (program_of (ldc_wide (2 ^ 32) ∷ ret ∷ [])) ≡ Some 0
 unfolding is_fine
 a_pattern_of_33_bits = refl
+
+-- An instance method's receiver is its first argument, and no `int32`.
+-- A body that leaves it out of the count accepts this, and refuses the next at 0.
+the_receiver : fault_of (in_string (ldarg 0 ∷ ret ∷ [])) ≡ Some 0
+unfolding is_fine
+the_receiver = refl
+
+an_argument_after_the_receiver : fault_of (in_string (ldarg 1 ∷ ret ∷ [])) ≡ None
+unfolding is_fine
+an_argument_after_the_receiver = refl
+
+an_argument_of_64_bits_after_the_receiver : fault_of (in_string (ldarg 2 ∷ ret ∷ [])) ≡ Some 0
+unfolding is_fine
+an_argument_of_64_bits_after_the_receiver = refl
+
+past_the_last_after_the_receiver : fault_of (in_string (ldarg 3 ∷ ret ∷ [])) ≡ Some 0
+unfolding is_fine
+past_the_last_after_the_receiver = refl
 
 -- Some instructions aren't run.
 -- A body that accepts this one refuses the `ret` at 3, which finds no operand.

@@ -15,13 +15,13 @@ use Rattle.px_program.specs.declared.instr.Shift.TheVariants.{Left}
 use Rattle.px_program.specs.declared.instr.Test.TheVariants.{Eq}
 use Rattle.px_program.specs.declared.instr.Unary.TheVariants.{Negate}
 use Rattle.px_program.specs.declared.program.Method.{Method}
-use Rattle.px_program.specs.declared.program.Place.TheVariants.{I4, I8, Ref}
+use Rattle.px_program.specs.declared.program.Place.TheVariants.{I4, I8}
 use Rattle.px_program.specs.declared.program.Program.{Program}
 use Rattle.px_program.specs.declared.program.TypeInfo.{TypeInfo}
 use Rattle.px_program.specs.Alone.{alone, no_layout}
 use Rattle.px_program.specs.Library.{library_types}
 use Rattle.px_verify.specs.Simple.{fault_of, is_fine}
-use Rattle.px_facts_run.proofs.Methods.{Sized, add, laid_from, ldarg, ldc, method_of, nop, ret}
+use Rattle.px_facts_run.proofs.Methods.{Sized, add, instance_of, laid_from, ldarg, ldc, method_of, nop, ret}
 
 -- the method of these rows, with the parameters `int32`, `int32` and `int64`
 abbrev method_from : List Sized → Method
@@ -228,17 +228,7 @@ box = record { name = []; base = Some 0; element = None; fields = I4 ∷ []; sta
 
 -- an instance method of the class
 abbrev getter : Method
-getter = record {
-  name = [];
-  owner = 18;
-  is_static = false;
-  params = Ref 18 ∷ [];
-  ret = Some I4;
-  locals = [];
-  max_stack = 8;
-  code = laid_from 0 ((1, ldc 1) ∷ (1, ret) ∷ []);
-  clauses = [];
-}
+getter = instance_of 18 [] (laid_from 0 ((1, ldc 1) ∷ (1, ret) ∷ []))
 
 -- the program of a method that passes the instruction, beside the class and its method
 abbrev beside_box : Code → Program

@@ -4,7 +4,7 @@ use Rattle.px_program.specs.declared.program.Place.{Place}
 use Rattle.std.specs.Fmt.{digits}
 use Rattle.px_program.specs.declared.program.Place.TheVariants.{I4, I8, U1}
 use Rattle.px_program.specs.Alone.{alone}
-use Rattle.px_domain.specs.Domain.{params_of}
+use Rattle.px_program.specs.Arguments.{arguments_of}
 use Rattle.px_domain.specs.Grammar.{domain_of, groups_at, group_at, range_at, span_at, number_at}
 use Rattle.px_facts_run.proofs.Methods.{laid_from, ldc, method_of, ret}
 
@@ -15,7 +15,7 @@ abbrev int64_and_uint8 : List Place
 int64_and_uint8 = I8 ∷ U1 ∷ []
 
 -- The places are those of the parameters of the program's entry.
-places_of_the_entry : params_of (alone [] (method_of int64_and_uint8 (laid_from 0 ((1, ldc 0) ∷ (1, ret) ∷ [])))) ≡ int64_and_uint8
+places_of_the_entry : arguments_of (alone [] (method_of int64_and_uint8 (laid_from 0 ((1, ldc 0) ∷ (1, ret) ∷ [])))) ≡ int64_and_uint8
 places_of_the_entry = refl
 
 -- Without parameters the text is a dash, and nothing follows it.

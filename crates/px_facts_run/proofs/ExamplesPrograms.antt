@@ -1,14 +1,17 @@
 -- The types of the library, and the program of one method.
-use Rattle.std.proofs.Common.{◌≡◌, List, [], ◌∷◌, false, true, ℕ, Option, Some, None, codes, length, slice_get, refl}
+use Rattle.std.proofs.Common.{◌≡◌, List, [], ◌∷◌, true, ℕ, Option, Some, None, codes, length, slice_get, refl}
 use Rattle.px_program.specs.declared.instr.Code.TheVariants as codes_of
-use Rattle.px_program.specs.declared.instr.Move.TheVariants.{Constant, Pop}
+use Rattle.px_program.specs.declared.instr.Move.TheVariants.{Constant32, Pop}
 use Rattle.px_program.specs.declared.program.Method.{Method}
 use Rattle.px_program.specs.declared.program.Place.{Place}
-use Rattle.px_program.specs.declared.program.Place.TheVariants.{I4, Char}
+use Rattle.px_program.specs.declared.program.Place.TheVariants.{I4, I8, Char, Ref}
 use Rattle.px_program.specs.declared.program.Program.{Program}
 use Rattle.px_program.specs.declared.program.TypeInfo.{TypeInfo}
 use Rattle.px_program.specs.Alone.{alone}
+use Rattle.px_program.specs.Arguments.{arguments_of}
+use Rattle.px_program.specs.Formed.{all_params}
 use Rattle.px_program.specs.Library.{library_types}
+use Rattle.px_facts_run.proofs.Methods.{instance_of, laid_from, ldc, method_of, ret}
 
 -- THE LIBRARY
 
@@ -88,7 +91,7 @@ maker_of_chars = record {
   ret = None;
   locals = [];
   max_stack = 1;
-  code = record { offset = 0; next = 1; code = codes_of.Move (Constant false 2) }
+  code = record { offset = 0; next = 1; code = codes_of.Move (Constant32 2) }
       ∷ record { offset = 1; next = 6; code = codes_of.NewArray 19 }
       ∷ record { offset = 6; next = 7; code = codes_of.Move Pop }
       ∷ record { offset = 7; next = 8; code = codes_of.Return }
@@ -128,3 +131,44 @@ entry_of_program = refl
 
 no_maker : with_arrays.maker ≡ None
 no_maker = refl
+
+-- PARAMETERS
+
+-- a static method of these parameters, and an instance method of `String`
+abbrev static_method : Method
+static_method = method_of (I4 ∷ I8 ∷ []) (laid_from 0 ((1, ldc 0) ∷ (1, ret) ∷ []))
+
+abbrev instance_method : Method
+instance_method = instance_of 17 (I4 ∷ I8 ∷ []) (laid_from 0 ((1, ldc 0) ∷ (1, ret) ∷ []))
+
+params_of_static : all_params static_method ≡ I4 ∷ I8 ∷ []
+params_of_static = refl
+
+-- The receiver comes first, as a reference to the method's type.
+params_of_instance : all_params instance_method ≡ Ref 17 ∷ I4 ∷ I8 ∷ []
+params_of_instance = refl
+
+-- A body that counts from the receiver on in a static method too has no parameter here.
+first_of_static : slice_get (all_params static_method) 0 ≡ Some I4
+first_of_static = refl
+
+-- A body that leaves out the receiver has `int32` here, and nothing for the last.
+first_of_instance : slice_get (all_params instance_method) 0 ≡ Some (Ref 17)
+first_of_instance = refl
+
+last_of_instance : slice_get (all_params instance_method) 2 ≡ Some I8
+last_of_instance = refl
+
+past_the_last : slice_get (all_params instance_method) 3 ≡ None
+past_the_last = refl
+
+-- A run is given no receiver.
+arguments_of_static : arguments_of (alone [] static_method) ≡ I4 ∷ I8 ∷ []
+arguments_of_static = refl
+
+-- A body that gives all parameters has a reference first.
+arguments_of_instance : arguments_of (alone [] instance_method) ≡ I4 ∷ I8 ∷ []
+arguments_of_instance = refl
+
+arguments_of_none : arguments_of with_arrays ≡ []
+arguments_of_none = refl

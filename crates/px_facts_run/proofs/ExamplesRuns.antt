@@ -19,7 +19,7 @@ use Rattle.px_domain.specs.declared.domain.Part.TheVariants.{Scalar}
 use Rattle.px_domain.specs.Grammar.{domain_of, groups_at, group_at, range_at}
 use Rattle.px_interp.specs.Run.{Course, course_of}
 use Rattle.px_interp.specs.Table.{run}
-use Rattle.px_facts_run.proofs.Methods.{Sized, add, br, branch_on, brfalse, brtrue, laid_from, ldarg, ldc, method_of, nop, ret, sub}
+use Rattle.px_facts_run.proofs.Methods.{Sized, add, br, branch_on, brfalse, brtrue, instance_of, laid_from, ldarg, ldc, method_of, nop, ret, sub}
 
 -- HOW RUNS ARE WRITTEN
 
@@ -301,3 +301,18 @@ a_step_too_few_for_all = refl
 over_most : course_of hundred_added whole (within 4) (5 ∷ 1 ∷ []) ≡ returns 9 (branch 2 1 ∷ []) (1 ∷ [])
 unfolding run word gap_of distance_of
 over_most = refl
+
+-- A RECEIVER
+
+-- the program of an instance method of `String`, whose first argument is its receiver
+abbrev in_string : List Code → Program
+in_string rows = alone [] (instance_of 17 (I4 ∷ I4 ∷ []) (laid_from 0 (map of_two_bytes rows)))
+
+-- The words are those of the parameters after it. A body that gives the first word to the receiver returns 7 for 5, and then gets stuck.
+first_after_the_receiver : course_of (in_string (ldarg 1 ∷ ret ∷ [])) whole (within 9) (5 ∷ 7 ∷ []) ≡ returns 5 [] []
+unfolding run
+first_after_the_receiver = refl
+
+last_after_the_receiver : course_of (in_string (ldarg 2 ∷ ret ∷ [])) whole (within 9) (5 ∷ 7 ∷ []) ≡ returns 7 [] []
+unfolding run
+last_after_the_receiver = refl

@@ -13,6 +13,7 @@ mod ExamplesReports
 mod ExamplesRuns
 mod ExamplesTrees
 mod ExamplesTuples
+mod ExamplesTypes
 mod ExamplesWords32
 mod ExamplesWords64
 mod Held

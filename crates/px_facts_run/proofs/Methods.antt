@@ -4,7 +4,7 @@ use Rattle.px_program.specs.declared.instr.Arithmetic.TheVariants.{Add, Sub}
 use Rattle.px_program.specs.declared.instr.Code.{Code}
 use Rattle.px_program.specs.declared.instr.Code.TheVariants.{Nop, Move, Arithmetic, Branch, BranchTruth, BranchCompare, Return}
 use Rattle.px_program.specs.declared.instr.Instr.{Instr}
-use Rattle.px_program.specs.declared.instr.Move.TheVariants.{Argument, Constant}
+use Rattle.px_program.specs.declared.instr.Move.TheVariants.{Argument, Constant32}
 use Rattle.px_program.specs.declared.instr.Test.{Test}
 use Rattle.px_program.specs.declared.program.Method.{Method}
 use Rattle.px_program.specs.declared.program.Place.{Place}
@@ -20,7 +20,7 @@ ldarg n = Move (Argument n)
 
 -- a constant of 32 bits
 abbrev pub ldc : ℕ → Code
-ldc pattern = Move (Constant false pattern)
+ldc pattern = Move (Constant32 pattern)
 
 abbrev pub add : Code
 add = Arithmetic Add
@@ -60,6 +60,20 @@ method_of params code = record {
   name = [];
   owner = 0;
   is_static = true;
+  params = params;
+  ret = Some I4;
+  locals = [];
+  max_stack = 8;
+  code = code;
+  clauses = [];
+}
+
+-- an instance method of a type that returns an `int32`
+abbrev pub instance_of : ℕ → List Place → List Instr → Method
+instance_of type params code = record {
+  name = [];
+  owner = type;
+  is_static = false;
   params = params;
   ret = Some I4;
   locals = [];

@@ -20,7 +20,7 @@ pub fn put_names<'a>(
 /// Writes the type that a type specification spells.
 pub fn put_spec(text: &mut String, spec: Option<&SigType>) -> Result<(), AllocError> {
     match spec {
-        Some(of) => put_type(of, text),
+        Some(of) => put_type(*of, text),
         None => text.push_str("none"),
     }
 }
@@ -62,7 +62,7 @@ pub fn put_field(text: &mut String, field: Option<&MetaField>) -> Result<(), All
         Text(", "),
     ];
     put_pieces(text, &pieces)?;
-    put_type(&field.sig, text)
+    put_type(field.sig, text)
 }
 
 /// Writes a method.
@@ -81,7 +81,7 @@ pub fn put_meta_method(text: &mut String, method: Option<&MetaMethod>) -> Result
         Text(", "),
     ];
     put_pieces(text, &pieces)?;
-    put_method(&method.sig, text)
+    put_method(method.sig.get(), text)
 }
 
 // Writes a reference to a member.

@@ -4,8 +4,8 @@ ghost use Rattle.std.specs.Prelude.{◌<◌, ◌^◌, length};
 use crate::pieces::Piece::{Number, Text, Token};
 use crate::pieces::put_pieces;
 use px_sig::{
-    Integer, MethodSig, SigFault, SigType, read_field_sig, read_locals_sig, read_method_sig,
-    read_type_sig,
+    Integer, MethodSig, SigFault, SigLeaf, SigType, read_field_sig, read_locals_sig,
+    read_method_sig, read_type_sig,
 };
 use std::alloc::{AllocError, Global};
 
@@ -27,14 +27,14 @@ fn integer_name(integer: Integer) -> &'static str {
 }
 
 // Writes a type that is no array.
-fn put_leaf(of: &SigType, text: &mut String) -> Result<(), AllocError> {
-    match of {
-        SigType::Void => text.push_str("void"),
-        SigType::Int(integer) => text.push_str(integer_name(*integer)),
-        SigType::Str => text.push_str("string"),
-        SigType::Object => text.push_str("object"),
-        SigType::Class(token) => put_pieces(text, &[Text("class "), Token(*token)]),
-        SigType::Other | SigType::Array(_) => text.push_str("other"),
+fn put_leaf(leaf: SigLeaf, text: &mut String) -> Result<(), AllocError> {
+    match leaf {
+        SigLeaf::Void => text.push_str("void"),
+        SigLeaf::Int(integer) => text.push_str(integer_name(integer)),
+        SigLeaf::Str => text.push_str("string"),
+        SigLeaf::Object => text.push_str("object"),
+        SigLeaf::Class(token) => put_pieces(text, &[Text("class "), Token(token)]),
+        SigLeaf::Other => text.push_str("other"),
     }
 }
 
@@ -49,15 +49,9 @@ fn put_brackets(text: &mut String, depth: u32) -> Result<(), AllocError> {
 }
 
 /// Writes a type.
-pub fn put_type(of: &SigType, text: &mut String) -> Result<(), AllocError> {
-    let mut leaf = of;
-    let mut depth = 0u32;
-    while let SigType::Array(element) = leaf {
-        leaf = element.get();
-        depth = depth.saturating_add(1);
-    }
-    put_leaf(leaf, text)?;
-    put_brackets(text, depth)
+pub fn put_type(of: SigType, text: &mut String) -> Result<(), AllocError> {
+    put_leaf(of.leaf, text)?;
+    put_brackets(text, of.depth)
 }
 
 // Writes types in brackets.
@@ -65,7 +59,7 @@ fn put_types(types: &[SigType], text: &mut String) -> Result<(), AllocError> {
     let mut mark = "(";
     for of in types {
         text.push_str(mark)?;
-        put_type(of, text)?;
+        put_type(*of, text)?;
         mark = ", ";
     }
     text.push_str(if types.is_empty() { "()" } else { ")" })
@@ -76,7 +70,7 @@ pub fn put_method(method: &MethodSig, text: &mut String) -> Result<(), AllocErro
     let this = if method.has_this { "this " } else { "" };
     let special = if method.plain { "" } else { "special " };
     put_pieces(text, &[Text(this), Text(special)])?;
-    put_type(&method.ret, text)?;
+    put_type(method.ret, text)?;
     put_types(method.params.as_slice(), text)
 }
 
@@ -103,7 +97,7 @@ pub fn put_field_of(alloc: Global, text: &mut String, blob: &[u8]) -> Result<(),
     requires { length blob.now < 2 ^ 31 }
 {
     match read_field_sig(alloc, blob) {
-        Ok(field) => put_type(&field, text),
+        Ok(field) => put_type(field, text),
         Err(fault) => put_fault(text, fault),
     }
 }
@@ -123,7 +117,7 @@ pub fn put_type_of(alloc: Global, text: &mut String, blob: &[u8]) -> Result<(), 
     requires { length blob.now < 2 ^ 31 }
 {
     match read_type_sig(alloc, blob) {
-        Ok(of) => put_type(&of, text),
+        Ok(of) => put_type(of, text),
         Err(fault) => put_fault(text, fault),
     }
 }

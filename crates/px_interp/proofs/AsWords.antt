@@ -13,7 +13,7 @@ use Rattle.px_program.specs.declared.record.End.TheVariants as ends
 use Rattle.px_program.specs.declared.record.Site.{Site}
 use Rattle.px_program.specs.declared.record.Value.{Value}
 use Rattle.px_program.specs.declared.record.Value.TheVariants as values
-use Rattle.px_program.specs.Formed.{instr_at}
+use Rattle.px_program.specs.Formed.{all_params, instr_at}
 use Rattle.px_domain.specs.Place.{word_bits}
 use Rattle.px_interp.specs.declared.machine.Seen.{Seen}
 use Rattle.px_interp.specs.Run.{Course, course_by, no_pool, seen_events, seen_gaps}
@@ -89,11 +89,11 @@ module _ {P W : Type 0} {IsSound : P → Type 0} {StandsIn : P → ℕ → W →
   arguments_same p [] (x ∷ args) h = absurd h
   arguments_same p (place ∷ params) [] h = absurd h
 
-  pub run_as_words : (method : Method) → ((at : ℕ) (i : Instr) → instr_at method.code at ≡ Some i → NamesValue method i.code) → (number n : ℕ) (args : List W) (p : P) → AreArguments (StandsIn p) method.params args
+  pub run_as_words : (method : Method) → ((at : ℕ) (i : Instr) → instr_at method.code at ≡ Some i → NamesValue method i.code) → (number n : ℕ) (args : List W) (p : P) → AreArguments (StandsIn p) (all_params method) args
       → course (run a n method number args (first p)).seen (run a n method number args (first p)).end ≡ course_by (run plain_algebra n method number (map (λ x. plain (a.word x)) args) (first no_pool))
   run_as_words method known number n args p standing =
       let r = run a n method number args (first p) in
       let t = run plain_algebra n method number (map (λ x. plain (a.word x)) args) (first no_pool) in
       follows_same r.pool t.pool r.end t.end r.seen t.seen
       (runs_alike a plain_algebra AnyPools WordIs IsSame IsSame word_law method args _ known number n (first p) (first no_pool)
-      (record { at = refl; pool = tt; stack = tt; arguments = arguments_same p method.params args standing }))
+      (record { at = refl; pool = tt; stack = tt; arguments = arguments_same p (all_params method) args standing }))

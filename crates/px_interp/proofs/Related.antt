@@ -21,7 +21,7 @@ use Rattle.px_program.specs.declared.program.Place.TheVariants.{I4}
 use Rattle.px_program.specs.declared.record.End.{End}
 use Rattle.px_program.specs.declared.record.End.TheVariants as ends
 use Rattle.px_program.specs.declared.record.Value.TheVariants as values
-use Rattle.px_program.specs.Formed.{instr_at}
+use Rattle.px_program.specs.Formed.{all_params, instr_at}
 use Rattle.px_rank.specs.Distance.{gap_of}
 use Rattle.px_domain.specs.Place.{word_bits}
 use Rattle.px_verify.specs.Typing.{HasValue}
@@ -168,19 +168,19 @@ module _ {P W Q V : Type 0} (a : Algebra P W) (b : Algebra Q V) (pools : P → Q
     stays_condition tests.Le c p x x' bits u v h = stays_zero _ bits u v (law.stays p _ _ bits u v h)
 
     module _ (method : Method) (args : List W) (args' : List V) where
-      go_alike : (next : ℕ) (p : P) (q : Q) (xs : List W) (ys : List V) → pools p q → PairsAt (alike p) (map word_bits method.params) args args' → Pairs (alike p 32) xs ys
-          → AlikeStates method.params args args' (record { at = next; stack = xs; pool = p }) (record { at = next; stack = ys; pool = q })
+      go_alike : (next : ℕ) (p : P) (q : Q) (xs : List W) (ys : List V) → pools p q → PairsAt (alike p) (map word_bits (all_params method)) args args' → Pairs (alike p 32) xs ys
+          → AlikeStates (all_params method) args args' (record { at = next; stack = xs; pool = p }) (record { at = next; stack = ys; pool = q })
       go_alike next p q xs ys po ar h = record { at = refl; pool = po; stack = h; arguments = ar }
 
       -- a scalar more on the stack, made in a later pool
-      pushed_alike : (next : ℕ) (p : P) (m : Made P W) (n : Made Q V) (xs : List W) (ys : List V) → Stays p m.pool → AlikeMade 32 m n → PairsAt (alike p) (map word_bits method.params) args args' → Pairs (alike p 32) xs ys
-          → AlikeSteps method.params args args' (pushed next xs m) (pushed next ys n)
+      pushed_alike : (next : ℕ) (p : P) (m : Made P W) (n : Made Q V) (xs : List W) (ys : List V) → Stays p m.pool → AlikeMade 32 m n → PairsAt (alike p) (map word_bits (all_params method)) args args' → Pairs (alike p 32) xs ys
+          → AlikeSteps (all_params method) args args' (pushed next xs m) (pushed next ys n)
       pushed_alike next p m n xs ys stays made ar h =
           go_alike next m.pool n.pool _ _ made.pool (pairs_at_mono _ _ stays _ args args' ar) (made.scalar, pairs_mono _ _ (stays 32) xs ys h)
 
       branched_alike : (number offset next target : ℕ) (compare : Compare) (p : P) (q : Q) (x x' : W) (y y' : V) (xs : List W) (ys : List V) → pools p q → alike p (bits_of compare.wide) x y → alike p (bits_of compare.wide) x' y'
-          → PairsAt (alike p) (map word_bits method.params) args args' → Pairs (alike p 32) xs ys
-          → AlikeSteps method.params args args' (branched a number offset next target xs compare x x' p) (branched b number offset next target ys compare y y' q)
+          → PairsAt (alike p) (map word_bits (all_params method)) args args' → Pairs (alike p 32) xs ys
+          → AlikeSteps (all_params method) args args' (branched a number offset next target xs compare x x' p) (branched b number offset next target ys compare y y' q)
       branched_alike number offset next target compare p q x x' y y' xs ys po h h' ar st =
           let made = condition_alike compare.test compare p q x x' y y' po h h' in
           let stays = stays_condition compare.test compare p x x' in (
@@ -194,8 +194,8 @@ module _ {P W Q V : Type 0} (a : Algebra P W) (b : Algebra Q V) (pools : P → Q
           )
 
       argument_alike : (next : ℕ) (p : P) (q : Q) (xs : List W) (ys : List V) (params : List Place) (us : List W) (vs : List V) (n : ℕ) → slice_get params n ≡ Some I4 → PairsAt (alike p) (map word_bits params) us vs
-          → pools p q → PairsAt (alike p) (map word_bits method.params) args args' → Pairs (alike p 32) xs ys
-          → AlikeSteps method.params args args' (on_argument a (slice_get us n) next xs p) (on_argument b (slice_get vs n) next ys q)
+          → pools p q → PairsAt (alike p) (map word_bits (all_params method)) args args' → Pairs (alike p 32) xs ys
+          → AlikeSteps (all_params method) args args' (on_argument a (slice_get us n) next xs p) (on_argument b (slice_get vs n) next ys q)
       argument_alike next p q xs ys [] us vs n e h po ar st = cc
       argument_alike next p q xs ys (place ∷ params) (u ∷ us) (v ∷ vs) zero e h po ar st =
           let same : place ≡ I4 = cc in
@@ -205,20 +205,19 @@ module _ {P W Q V : Type 0} (a : Algebra P W) (b : Algebra Q V) (pools : P → Q
       argument_alike next p q xs ys (place ∷ params) [] vs n e h po ar st = absurd h
       argument_alike next p q xs ys (place ∷ params) (u ∷ us) [] n e h po ar st = absurd h
 
-      move_alike : (move : Move) (next : ℕ) (p : P) (q : Q) (xs : List W) (ys : List V) → HasValue method move → pools p q → PairsAt (alike p) (map word_bits method.params) args args' → Pairs (alike p 32) xs ys
-          → AlikeSteps method.params args args' (on_move a move args next xs p) (on_move b move args' next ys q)
-      move_alike (moves.Argument n) next p q xs ys known po ar st = argument_alike next p q xs ys method.params args args' n known ar po ar st
-      move_alike (moves.Constant true pattern) next p q xs ys known po ar st = cc
-      move_alike (moves.Constant false pattern) next p q xs ys known po ar st =
-          pushed_alike next p _ _ xs ys (law.stays p (op.Const false pattern) []) (constant_alike false pattern p q known.1 po) ar st
+      move_alike : (move : Move) (next : ℕ) (p : P) (q : Q) (xs : List W) (ys : List V) → HasValue method move → pools p q → PairsAt (alike p) (map word_bits (all_params method)) args args' → Pairs (alike p 32) xs ys
+          → AlikeSteps (all_params method) args args' (on_move a move args next xs p) (on_move b move args' next ys q)
+      move_alike (moves.Argument n) next p q xs ys known po ar st = argument_alike next p q xs ys (all_params method) args args' n known ar po ar st
+      move_alike (moves.Constant32 pattern) next p q xs ys known po ar st =
+          pushed_alike next p _ _ xs ys (law.stays p (op.Const false pattern) []) (constant_alike false pattern p q known po) ar st
       move_alike _ next p q xs ys known po ar st = absurd known
 
       -- an operator of two 32 bits that has one as its result
       abbrev TwoAlike : Op → P → Q → Type 0
       TwoAlike o p q = (x x' : W) (y y' : V) → alike p 32 x y → alike p 32 x' y' → AlikeMade 32 (on_two a o x x' p) (on_two b o y y' q)
 
-      operator_alike : (o : Op) (next : ℕ) (p : P) (q : Q) (xs : List W) (ys : List V) → TwoAlike o p q → pools p q → PairsAt (alike p) (map word_bits method.params) args args' → Pairs (alike p 32) xs ys
-          → AlikeSteps method.params args args' (on_arithmetic a (Some o) next xs p) (on_arithmetic b (Some o) next ys q)
+      operator_alike : (o : Op) (next : ℕ) (p : P) (q : Q) (xs : List W) (ys : List V) → TwoAlike o p q → pools p q → PairsAt (alike p) (map word_bits (all_params method)) args args' → Pairs (alike p 32) xs ys
+          → AlikeSteps (all_params method) args args' (on_arithmetic a (Some o) next xs p) (on_arithmetic b (Some o) next ys q)
       operator_alike o next p q [] [] two po ar st = po
       operator_alike o next p q (x ∷ []) (y ∷ []) two po ar st = po
       operator_alike o next p q (x' ∷ x ∷ xs) (y' ∷ y ∷ ys) two po ar st = pushed_alike next p _ _ xs ys (law.stays p _ _) (two x x' y y' st.1.0 st.0) ar st.1.1
@@ -227,16 +226,16 @@ module _ {P W Q V : Type 0} (a : Algebra P W) (b : Algebra Q V) (pools : P → Q
       operator_alike o next p q (x' ∷ []) (y' ∷ y ∷ ys) two po ar st = absurd st.1
       operator_alike o next p q (x' ∷ x ∷ xs) (y' ∷ []) two po ar st = absurd st.1
 
-      arithmetic_alike : (operation : Arithmetic) (next : ℕ) (p : P) (q : Q) (xs : List W) (ys : List V) → pools p q → PairsAt (alike p) (map word_bits method.params) args args' → Pairs (alike p 32) xs ys
-          → AlikeSteps method.params args args' (on_arithmetic a (operator_of operation) next xs p) (on_arithmetic b (operator_of operation) next ys q)
+      arithmetic_alike : (operation : Arithmetic) (next : ℕ) (p : P) (q : Q) (xs : List W) (ys : List V) → pools p q → PairsAt (alike p) (map word_bits (all_params method)) args args' → Pairs (alike p 32) xs ys
+          → AlikeSteps (all_params method) args args' (on_arithmetic a (operator_of operation) next xs p) (on_arithmetic b (operator_of operation) next ys q)
       arithmetic_alike arithmetic.Add next p q xs ys po ar st =
           operator_alike (op.Add false) next p q xs ys (λ x x' y y' h h'. two_alike (op.Add false) p q x x' y y' tt po (h, (h', tt))) po ar st
       arithmetic_alike arithmetic.Sub next p q xs ys po ar st =
           operator_alike (op.Sub false) next p q xs ys (λ x x' y y' h h'. two_alike (op.Sub false) p q x x' y y' tt po (h, (h', tt))) po ar st
       arithmetic_alike _ next p q xs ys po ar st = po
 
-      truth_alike : (test : Test) (number offset next target : ℕ) (p : P) (q : Q) (xs : List W) (ys : List V) → pools p q → PairsAt (alike p) (map word_bits method.params) args args' → Pairs (alike p 32) xs ys
-          → AlikeSteps method.params args args' (on_truth a number offset next target (compare_of test true) xs p) (on_truth b number offset next target (compare_of test true) ys q)
+      truth_alike : (test : Test) (number offset next target : ℕ) (p : P) (q : Q) (xs : List W) (ys : List V) → pools p q → PairsAt (alike p) (map word_bits (all_params method)) args args' → Pairs (alike p 32) xs ys
+          → AlikeSteps (all_params method) args args' (on_truth a number offset next target (compare_of test true) xs p) (on_truth b number offset next target (compare_of test true) ys q)
       truth_alike test number offset next target p q [] [] po ar st = po
       truth_alike test number offset next target p q (x ∷ xs) (y ∷ ys) po ar st =
           let z = zero_alike p q po in
@@ -246,8 +245,8 @@ module _ {P W Q V : Type 0} (a : Algebra P W) (b : Algebra Q V) (pools : P → Q
       truth_alike test number offset next target p q [] (y ∷ ys) po ar st = absurd st
       truth_alike test number offset next target p q (x ∷ xs) [] po ar st = absurd st
 
-      compare_alike : (test : Test) (signed : Bool) (number offset next target : ℕ) (p : P) (q : Q) (xs : List W) (ys : List V) → pools p q → PairsAt (alike p) (map word_bits method.params) args args' → Pairs (alike p 32) xs ys
-          → AlikeSteps method.params args args' (on_compare a number offset next target (compare_of test signed) xs p) (on_compare b number offset next target (compare_of test signed) ys q)
+      compare_alike : (test : Test) (signed : Bool) (number offset next target : ℕ) (p : P) (q : Q) (xs : List W) (ys : List V) → pools p q → PairsAt (alike p) (map word_bits (all_params method)) args args' → Pairs (alike p 32) xs ys
+          → AlikeSteps (all_params method) args args' (on_compare a number offset next target (compare_of test signed) xs p) (on_compare b number offset next target (compare_of test signed) ys q)
       compare_alike test signed number offset next target p q [] [] po ar st = po
       compare_alike test signed number offset next target p q (x ∷ []) (y ∷ []) po ar st = po
       compare_alike test signed number offset next target p q (x' ∷ x ∷ xs) (y' ∷ y ∷ ys) po ar st =
@@ -258,15 +257,15 @@ module _ {P W Q V : Type 0} (a : Algebra P W) (b : Algebra Q V) (pools : P → Q
       compare_alike test signed number offset next target p q (x' ∷ x ∷ xs) (y' ∷ []) po ar st = absurd st.1
 
       return_alike : (p : P) (q : Q) (xs : List W) (ys : List V) → pools p q → Pairs (alike p 32) xs ys
-          → AlikeSteps method.params args args' (on_return a xs p) (on_return b ys q)
+          → AlikeSteps (all_params method) args args' (on_return a xs p) (on_return b ys q)
       return_alike p q [] [] po st = po
       return_alike p q (x ∷ xs) (y ∷ ys) po st = (po, (tt, law.number p 32 x y st.0))
       return_alike p q [] (y ∷ ys) po st = absurd st
       return_alike p q (x ∷ xs) [] po st = absurd st
 
       -- ONE CASE FOR EACH ROW
-      pub row_alike : (code : Code) (number offset next : ℕ) (p : P) (q : Q) (xs : List W) (ys : List V) → NamesValue method code → pools p q → PairsAt (alike p) (map word_bits method.params) args args' → Pairs (alike p 32) xs ys
-          → AlikeSteps method.params args args' (row a code number offset next args xs p) (row b code number offset next args' ys q)
+      pub row_alike : (code : Code) (number offset next : ℕ) (p : P) (q : Q) (xs : List W) (ys : List V) → NamesValue method code → pools p q → PairsAt (alike p) (map word_bits (all_params method)) args args' → Pairs (alike p 32) xs ys
+          → AlikeSteps (all_params method) args args' (row a code number offset next args xs p) (row b code number offset next args' ys q)
       row_alike (codes.Nop is_break) number offset next p q xs ys known po ar st = go_alike next p q xs ys po ar st
       row_alike (codes.Move move) number offset next p q xs ys known po ar st = move_alike move next p q xs ys known po ar st
       row_alike (codes.Arithmetic operation) number offset next p q xs ys known po ar st = arithmetic_alike operation next p q xs ys po ar st
@@ -297,7 +296,8 @@ module _ {P W Q V : Type 0} (a : Algebra P W) (b : Algebra Q V) (pools : P → Q
 
       stays_move : (move : Move) (next : ℕ) (xs : List W) (p : P) (go : State P W → Outcome P W) → KeepsPool go → Stays p (behind a (on_move a move args next xs p) go).pool
       stays_move (moves.Argument n) next xs p go f = stays_argument (slice_get args n) next xs p go f
-      stays_move (moves.Constant wide pattern) next xs p go f = through p _ _ (law.stays p _ _) (f _)
+      stays_move (moves.Constant32 pattern) next xs p go f = through p _ _ (law.stays p _ _) (f _)
+      stays_move (moves.Constant64 pattern) next xs p go f = through p _ _ (law.stays p _ _) (f _)
       stays_move _ next xs p go f = kept p
 
       stays_arithmetic : (o : Option Op) (next : ℕ) (xs : List W) (p : P) (go : State P W → Outcome P W) → KeepsPool go → Stays p (behind a (on_arithmetic a o next xs p) go).pool
@@ -342,8 +342,8 @@ module _ {P W Q V : Type 0} (a : Algebra P W) (b : Algebra Q V) (pools : P → Q
       stays_run number (suc n) s = stays_step (instr_at method.code s.at) number s (run a n method number args) (stays_run number n)
 
       moved : (m : Step P W) (m' : Step Q V) (go : State P W → Outcome P W) (go' : State Q V → Outcome Q V) → KeepsPool go
-          → ((s : State P W) (t : State Q V) → AlikeStates method.params args args' s t → AlikeRuns (go s) (go' t))
-          → AlikeSteps method.params args args' m m' → AlikeRuns (behind a m go) (behind b m' go')
+          → ((s : State P W) (t : State Q V) → AlikeStates (all_params method) args args' s t → AlikeRuns (go s) (go' t))
+          → AlikeSteps (all_params method) args args' m m' → AlikeRuns (behind a m go) (behind b m' go')
       moved (Goes s) (Goes t) go go' stays on h = on s t h
       moved (Chooses e s) (Chooses f t) go go' stays on h =
           (record { site = h.0.site; side = stays s 32 e.side f.side h.0.side; word = h.0.word; word' = h.0.word'; gap = h.0.gap }, λ same. on s t (h.1 same))
@@ -351,18 +351,18 @@ module _ {P W Q V : Type 0} (a : Algebra P W) (b : Algebra Q V) (pools : P → Q
       moved (Stuck p) (Stuck q) go go' stays on h = (h, tt)
       moved _ _ go go' stays on h = absurd h
 
-      step_alike : (i : Option Instr) (number : ℕ) (s : State P W) (t : State Q V) → ((j : Instr) → i ≡ Some j → NamesValue method j.code) → AlikeStates method.params args args' s t
-          → AlikeSteps method.params args args' (row_at a i number args s) (row_at b i number args' t)
+      step_alike : (i : Option Instr) (number : ℕ) (s : State P W) (t : State Q V) → ((j : Instr) → i ≡ Some j → NamesValue method j.code) → AlikeStates (all_params method) args args' s t
+          → AlikeSteps (all_params method) args args' (row_at a i number args s) (row_at b i number args' t)
       step_alike None number s t known h = h.pool
       step_alike (Some i) number s t known h = row_alike i.code number i.offset i.next s.pool t.pool s.stack t.stack (known i refl) h.pool h.arguments h.stack
 
       -- THE LAW OF WHOLE RUNS
-      pub runs_alike : ((at : ℕ) (i : Instr) → instr_at method.code at ≡ Some i → NamesValue method i.code) → (number n : ℕ) (s : State P W) (t : State Q V) → AlikeStates method.params args args' s t
+      pub runs_alike : ((at : ℕ) (i : Instr) → instr_at method.code at ≡ Some i → NamesValue method i.code) → (number n : ℕ) (s : State P W) (t : State Q V) → AlikeStates (all_params method) args args' s t
           → AlikeRuns (run a n method number args s) (run b n method number args' t)
       unfolding run
       runs_alike known number zero s t h = (h.pool, (tt, tt))
       runs_alike known number (suc n) s t h =
-          let F : ℕ → Type 0 = λ (at : ℕ). AlikeSteps method.params args args' (step a method number args s) (row_at b (instr_at method.code at) number args' t) in
+          let F : ℕ → Type 0 = λ (at : ℕ). AlikeSteps (all_params method) args args' (step a method number args s) (row_at b (instr_at method.code at) number args' t) in
           moved (step a method number args s) (step b method number args' t) (run a n method number args) (run b n method number args')
           (stays_run number n)
           (λ u w k. runs_alike known number n u w k)

@@ -1,7 +1,6 @@
 -- A run, one step at a time.
 use Rattle.std.proofs.Common.{◌≡◌, ℕ, zero, suc, ◌+◌, ◌-◌, ◌<◌, ◌≤◌, List, [], ◌∷◌, ◌++◌, length, map, true, Some, IsSome, refl, sym, ap, ◌∙◌, subst, append_assoc, append-nil, arith, length-append}
 use Rattle.std.specs.List.{slice_get}
-use Rattle.px_words.specs.Operator.{bits_of}
 use Rattle.px_cells.specs.Algebra.{Algebra, Laws}
 use Rattle.px_cells.specs.Plain.{plain, plain_algebra}
 use Rattle.px_program.specs.declared.instr.Arithmetic.{Arithmetic}
@@ -14,7 +13,7 @@ use Rattle.px_program.specs.declared.instr.Move.TheVariants as moves
 use Rattle.px_program.specs.declared.program.Method.{Method}
 use Rattle.px_program.specs.declared.record.End.{End}
 use Rattle.px_program.specs.declared.record.End.TheVariants as ends
-use Rattle.px_program.specs.Formed.{instr_at}
+use Rattle.px_program.specs.Formed.{all_params, instr_at}
 use Rattle.px_verify.specs.Simple.{is_sum}
 use Rattle.px_verify.specs.Typing.{Fits, HasValue, IsTyped}
 use Rattle.px_interp.specs.declared.machine.Seen.{Seen}
@@ -48,9 +47,9 @@ inside [] i x h = cc
 inside (y ∷ xs) zero x h = omega arith
 inside (y ∷ xs) (suc i) x h = omega (arith, inside xs i x h)
 
-has_scalar : {X : Type 0} (P : ℕ → X → Type 0) (method : Method) (args : List X) (move : Move) → AreArguments P method.params args → HasValue method move → HasScalar (length args) move
-has_scalar P method args (moves.Argument n) ar h = let e = int32_argument P method.params args n h ar in inside args n e.0 e.1
-has_scalar P method args (moves.Constant wide pattern) ar h = let e : bits_of wide ≡ 32 = ap bits_of h.0 in rw e h.1
+has_scalar : {X : Type 0} (P : ℕ → X → Type 0) (method : Method) (args : List X) (move : Move) → AreArguments P (all_params method) args → HasValue method move → HasScalar (length args) move
+has_scalar P method args (moves.Argument n) ar h = let e = int32_argument P (all_params method) args n h ar in inside args n e.0 e.1
+has_scalar P method args (moves.Constant32 pattern) ar h = h
 has_scalar P method args _ ar h = absurd h
 
 -- a sum has an operator
@@ -60,7 +59,7 @@ sum_operator arithmetic.Sub h = refl
 sum_operator _ h = cc
 
 -- an instruction that fits finds what it needs
-fits_needs : {X : Type 0} (P : ℕ → X → Type 0) (method : Method) (args : List X) (next depth : ℕ) (code : Code) → AreArguments P method.params args → Fits method next depth code → Needs (length args) depth code
+fits_needs : {X : Type 0} (P : ℕ → X → Type 0) (method : Method) (args : List X) (next depth : ℕ) (code : Code) → AreArguments P (all_params method) args → Fits method next depth code → Needs (length args) depth code
 fits_needs P method args next depth (codes.Nop is_break) ar f = tt
 fits_needs P method args next depth (codes.Move move) ar f = has_scalar P method args move ar f.0
 fits_needs P method args next depth (codes.Arithmetic operation) ar f = (sum_operator operation f.0, f.1)
@@ -70,7 +69,7 @@ fits_needs P method args next depth (codes.BranchCompare test signed target) ar 
 fits_needs P method args next depth codes.Return ar f = f
 fits_needs P method args next depth _ ar f = absurd f
 
-module _ {P W : Type 0} {IsSound : P → Type 0} {StandsIn : P → ℕ → W → Type 0} {a : Algebra P W} (laws : Laws IsSound StandsIn a) (method : Method) (typed : IsTyped method) (number : ℕ) (args : List W) (n : ℕ) (p : P) (standing : AreArguments (StandsIn p) method.params args) where
+module _ {P W : Type 0} {IsSound : P → Type 0} {StandsIn : P → ℕ → W → Type 0} {a : Algebra P W} (laws : Laws IsSound StandsIn a) (method : Method) (typed : IsTyped method) (number : ℕ) (args : List W) (n : ℕ) (p : P) (standing : AreArguments (StandsIn p) (all_params method) args) where
   came : (es : List (Seen W)) (end : End) (q : P) → with_seen es (record { seen = []; end = Some end; pool = q }) ≡ run a n method number args (first p) → Came a method number args n p es end q
   came es end q whole =
       let seen : es ≡ (run a n method number args (first p)).seen = sym (append-nil es) ∙ ap (λ o. o.seen) whole in

@@ -18,7 +18,7 @@ use Rattle.px_program.specs.declared.instr.Test.TheVariants as tests
 use Rattle.px_program.specs.declared.program.Method.{Method}
 use Rattle.px_program.specs.declared.program.Place.{Place}
 use Rattle.px_program.specs.declared.program.Place.TheVariants.{I4}
-use Rattle.px_program.specs.Formed.{instr_at}
+use Rattle.px_program.specs.Formed.{all_params, instr_at}
 use Rattle.px_domain.specs.Place.{word_bits}
 use Rattle.px_verify.specs.Simple.{is_sum}
 use Rattle.px_verify.specs.Typing.{At, Fits, HasValue, IsTyped}
@@ -58,7 +58,7 @@ at_landing method next target d h k side = either (side == 0)
 pub record Ready {P W : Type 0} (IsSound : P → Type 0) (StandsIn : P → ℕ → W → Type 0) (method : Method) (args : List W) (s : State P W) : Type 0 where
   pub pool : IsSound s.pool
   pub stack : AllByRecursion (StandsIn s.pool 32) s.stack
-  pub arguments : AreArguments (StandsIn s.pool) method.params args
+  pub arguments : AreArguments (StandsIn s.pool) (all_params method) args
   pub depth : At method s.at (length s.stack)
 
 module _ {P W : Type 0} {IsSound : P → Type 0} {StandsIn : P → ℕ → W → Type 0} {a : Algebra P W} (laws : Laws IsSound StandsIn a) where
@@ -98,41 +98,40 @@ module _ {P W : Type 0} {IsSound : P → Type 0} {StandsIn : P → ℕ → W →
     ReadyAfter (Ends end pool) = Unit {0}
     ReadyAfter (Stuck pool) = ⊥
 
-    pushed_ready : (next : ℕ) (xs : List W) (p : P) (m : Made P W) → Keeps IsSound StandsIn p 32 m → AllByRecursion (StandsIn p 32) xs → AreArguments (StandsIn p) method.params args → At method next (length xs + 1) → ReadyAfter (pushed next xs m)
+    pushed_ready : (next : ℕ) (xs : List W) (p : P) (m : Made P W) → Keeps IsSound StandsIn p 32 m → AllByRecursion (StandsIn p 32) xs → AreArguments (StandsIn p) (all_params method) args → At method next (length xs + 1) → ReadyAfter (pushed next xs m)
     pushed_ready next xs p m k st ar d = record {
       pool = k.pool;
       stack = (k.result, all_mono _ _ (k.others 32) xs st);
-      arguments = arguments_mono _ _ k.others method.params args ar;
+      arguments = arguments_mono _ _ k.others (all_params method) args ar;
       depth = at_depth method next _ _ (omega arith) d;
     }
 
-    branched_ready : (number offset next target : ℕ) (xs : List W) (c : Compare) (x y : W) (p : P) → IsSound p → StandsIn p (bits_of c.wide) x → StandsIn p (bits_of c.wide) y → AllByRecursion (StandsIn p 32) xs → AreArguments (StandsIn p) method.params args
+    branched_ready : (number offset next target : ℕ) (xs : List W) (c : Compare) (x y : W) (p : P) → IsSound p → StandsIn p (bits_of c.wide) x → StandsIn p (bits_of c.wide) y → AllByRecursion (StandsIn p 32) xs → AreArguments (StandsIn p) (all_params method) args
         → At method next (length xs) → At method target (length xs) → ReadyAfter (branched a number offset next target xs c x y p)
     branched_ready number offset next target xs c x y p sound h k st ar d e =
         let m = condition_keeps c.test c p x y sound h k in
         record {
           pool = m.pool;
           stack = all_mono _ _ (m.others 32) xs st;
-          arguments = arguments_mono _ _ m.others method.params args ar;
+          arguments = arguments_mono _ _ m.others (all_params method) args ar;
           depth = at_landing method next target (length xs) d e _;
         }
 
-    move_ready : (move : Move) (next : ℕ) (xs : List W) (p : P) → HasValue method move → At method next (length xs + 1) → IsSound p → AllByRecursion (StandsIn p 32) xs → AreArguments (StandsIn p) method.params args → ReadyAfter (on_move a move args next xs p)
+    move_ready : (move : Move) (next : ℕ) (xs : List W) (p : P) → HasValue method move → At method next (length xs + 1) → IsSound p → AllByRecursion (StandsIn p 32) xs → AreArguments (StandsIn p) (all_params method) args → ReadyAfter (on_move a move args next xs p)
     move_ready (moves.Argument n) next xs p value d sound st ar =
-        let e = int32_argument (StandsIn p) method.params args n value ar in
+        let e = int32_argument (StandsIn p) (all_params method) args n value ar in
         rw e.1 (record { pool = sound; stack = (e.2, st); arguments = ar; depth = at_depth method next _ _ (omega arith) d })
-    move_ready (moves.Constant true pattern) next xs p value d sound st ar = cc
-    move_ready (moves.Constant false pattern) next xs p value d sound st ar = pushed_ready next xs p _ (constant_keeps p pattern value.1 sound) st ar d
+    move_ready (moves.Constant32 pattern) next xs p value d sound st ar = pushed_ready next xs p _ (constant_keeps p pattern value sound) st ar d
     move_ready _ next xs p value d sound st ar = absurd value
 
     -- an operator of two 32 bits has one as its result
-    two_ready : (o : Op) (next : ℕ) (xs : List W) (p : P) → ((x y : W) → StandsIn p 32 x → StandsIn p 32 y → Keeps IsSound StandsIn p 32 (on_two a o x y p)) → 2 ≤ length xs → At method next (length xs - 1) → AllByRecursion (StandsIn p 32) xs → AreArguments (StandsIn p) method.params args
+    two_ready : (o : Op) (next : ℕ) (xs : List W) (p : P) → ((x y : W) → StandsIn p 32 x → StandsIn p 32 y → Keeps IsSound StandsIn p 32 (on_two a o x y p)) → 2 ≤ length xs → At method next (length xs - 1) → AllByRecursion (StandsIn p 32) xs → AreArguments (StandsIn p) (all_params method) args
         → ReadyAfter (on_arithmetic a (Some o) next xs p)
     two_ready o next [] p keeps deep d st ar = absurd (omega arith)
     two_ready o next (y ∷ []) p keeps deep d st ar = absurd (omega arith)
     two_ready o next (y ∷ x ∷ xs) p keeps deep d st ar = pushed_ready next xs p _ (keeps x y st.1.0 st.0) st.1.1 ar (at_depth method next _ _ (omega arith) d)
 
-    arithmetic_ready : (operation : Arithmetic) (next : ℕ) (xs : List W) (p : P) → is_sum operation ≡ true → 2 ≤ length xs → At method next (length xs - 1) → IsSound p → AllByRecursion (StandsIn p 32) xs → AreArguments (StandsIn p) method.params args
+    arithmetic_ready : (operation : Arithmetic) (next : ℕ) (xs : List W) (p : P) → is_sum operation ≡ true → 2 ≤ length xs → At method next (length xs - 1) → IsSound p → AllByRecursion (StandsIn p 32) xs → AreArguments (StandsIn p) (all_params method) args
         → ReadyAfter (on_arithmetic a (operator_of operation) next xs p)
     arithmetic_ready arithmetic.Add next xs p known deep d sound st ar =
         two_ready (op.Add false) next xs p (λ x y h k. laws.keeps p (op.Add false) (x ∷ y ∷ []) tt sound (h, (k, tt))) deep d st ar
@@ -140,15 +139,15 @@ module _ {P W : Type 0} {IsSound : P → Type 0} {StandsIn : P → ℕ → W →
         two_ready (op.Sub false) next xs p (λ x y h k. laws.keeps p (op.Sub false) (x ∷ y ∷ []) tt sound (h, (k, tt))) deep d st ar
     arithmetic_ready _ next xs p known deep d sound st ar = cc
 
-    truth_ready : (test : Test) (number offset next target : ℕ) (xs : List W) (p : P) → 1 ≤ length xs → At method next (length xs - 1) → At method target (length xs - 1) → IsSound p → AllByRecursion (StandsIn p 32) xs → AreArguments (StandsIn p) method.params args
+    truth_ready : (test : Test) (number offset next target : ℕ) (xs : List W) (p : P) → 1 ≤ length xs → At method next (length xs - 1) → At method target (length xs - 1) → IsSound p → AllByRecursion (StandsIn p 32) xs → AreArguments (StandsIn p) (all_params method) args
         → ReadyAfter (on_truth a number offset next target (compare_of test true) xs p)
     truth_ready test number offset next target [] p deep d e sound st ar = absurd (omega arith)
     truth_ready test number offset next target (x ∷ xs) p deep d e sound st ar =
         let k = constant_keeps p 0 (lit< tt) sound in
-        branched_ready number offset next target xs (compare_of test true) x _ _ k.pool (k.others 32 x st.0) k.result (all_mono _ _ (k.others 32) xs st.1) (arguments_mono _ _ k.others method.params args ar)
+        branched_ready number offset next target xs (compare_of test true) x _ _ k.pool (k.others 32 x st.0) k.result (all_mono _ _ (k.others 32) xs st.1) (arguments_mono _ _ k.others (all_params method) args ar)
         (at_depth method next _ _ (omega arith) d) (at_depth method target _ _ (omega arith) e)
 
-    compare_ready : (test : Test) (signed : Bool) (number offset next target : ℕ) (xs : List W) (p : P) → 2 ≤ length xs → At method next (length xs - 2) → At method target (length xs - 2) → IsSound p → AllByRecursion (StandsIn p 32) xs → AreArguments (StandsIn p) method.params args
+    compare_ready : (test : Test) (signed : Bool) (number offset next target : ℕ) (xs : List W) (p : P) → 2 ≤ length xs → At method next (length xs - 2) → At method target (length xs - 2) → IsSound p → AllByRecursion (StandsIn p 32) xs → AreArguments (StandsIn p) (all_params method) args
         → ReadyAfter (on_compare a number offset next target (compare_of test signed) xs p)
     compare_ready test signed number offset next target [] p deep d e sound st ar = absurd (omega arith)
     compare_ready test signed number offset next target (y ∷ []) p deep d e sound st ar = absurd (omega arith)
@@ -161,7 +160,7 @@ module _ {P W : Type 0} {IsSound : P → Type 0} {StandsIn : P → ℕ → W →
     return_ready (x ∷ xs) p deep = tt
 
     -- one case for each row
-    pub row_ready : (code : Code) (number offset next : ℕ) (xs : List W) (p : P) → Fits method next (length xs) code → IsSound p → AllByRecursion (StandsIn p 32) xs → AreArguments (StandsIn p) method.params args → ReadyAfter (row a code number offset next args xs p)
+    pub row_ready : (code : Code) (number offset next : ℕ) (xs : List W) (p : P) → Fits method next (length xs) code → IsSound p → AllByRecursion (StandsIn p 32) xs → AreArguments (StandsIn p) (all_params method) args → ReadyAfter (row a code number offset next args xs p)
     row_ready (codes.Nop is_break) number offset next xs p f sound st ar = record { pool = sound; stack = st; arguments = ar; depth = f }
     row_ready (codes.Move move) number offset next xs p f sound st ar = move_ready move next xs p f.0 f.1 sound st ar
     row_ready (codes.Arithmetic operation) number offset next xs p f sound st ar = arithmetic_ready operation next xs p f.0 f.1 f.2 sound st ar

@@ -1,6 +1,5 @@
 -- What the answer of a row stands for, and what a row needs.
 use Rattle.std.specs.Prelude.{ℕ, ◌<◌, ◌≤◌, ◌^◌, List, IsSome}
-use Rattle.px_words.specs.Operator.{bits_of}
 use Rattle.px_cells.specs.Algebra.{Made}
 use Rattle.px_program.specs.declared.instr.Code.{Code}
 use Rattle.px_program.specs.declared.instr.Code.TheVariants as codes
@@ -22,7 +21,8 @@ step_of (nexts.Ends end) stack pool = Ends end pool
 -- a value that is put on the stack is there, of so many arguments
 abbrev pub HasScalar : ℕ → Move → Type 0
 HasScalar count (moves.Argument n) = n < count
-HasScalar count (moves.Constant wide pattern) = pattern < 2 ^ bits_of wide
+HasScalar count (moves.Constant32 pattern) = pattern < 2 ^ 32
+HasScalar count (moves.Constant64 pattern) = pattern < 2 ^ 64
 HasScalar count _ = ⊥
 
 -- what an instruction needs, of so many arguments and with so many operands on the stack

@@ -1,5 +1,5 @@
 -- The plain run of a program on argument words, and what is said of runs.
-use Rattle.std.specs.Prelude.{◌≡◌, ℕ, List, [], map, Option, Some, None}
+use Rattle.std.specs.Prelude.{◌≡◌, ℕ, List, [], ◌∷◌, if◌then◌else◌, map, Option, Some, None}
 use Rattle.px_cells.specs.declared.plain.NoPool.{NoPool}
 use Rattle.px_cells.specs.declared.plain.Plain.{Plain}
 use Rattle.px_cells.specs.Plain.{plain, plain_algebra}
@@ -34,9 +34,13 @@ seen_gaps seen = map (λ s. s.gap) seen
 abbrev pub course_by : Outcome NoPool Plain → Course
 course_by o = record { events = seen_events o.seen; gaps = seen_gaps o.seen; end = o.end }
 
+-- the words of a method's arguments: a receiver, which no simple method reads, has the word 0
+abbrev pub with_receiver : Method → List ℕ → List ℕ
+with_receiver method words = if method.is_static then words else 0 ∷ words
+
 abbrev pub course_in : Option Method → ℕ → ℕ → List ℕ → Course
 course_in None number steps words = record { events = []; gaps = []; end = None }
-course_in (Some method) number steps words = course_by (run plain_algebra steps method number (map plain words) (first no_pool))
+course_in (Some method) number steps words = course_by (run plain_algebra steps method number (map plain (with_receiver method words)) (first no_pool))
 
 -- the run of a program on words of a domain under bounds: a scalar is the word itself
 abbrev pub course_of : Program → List Part → Bounds → List ℕ → Course

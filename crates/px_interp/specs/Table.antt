@@ -113,7 +113,8 @@ module _ {P W : Type 0} (a : Algebra P W) where
 
   abbrev pub on_move : Move → List W → ℕ → List W → P → Step P W
   on_move (moves.Argument n) args next stack pool = on_argument (slice_get args n) next stack pool
-  on_move (moves.Constant wide pattern) args next stack pool = pushed next stack (a.applied pool (op.Const wide pattern) [])
+  on_move (moves.Constant32 pattern) args next stack pool = pushed next stack (a.applied pool (op.Const false pattern) [])
+  on_move (moves.Constant64 pattern) args next stack pool = pushed next stack (a.applied pool (op.Const true pattern) [])
   on_move _ args next stack pool = Stuck pool
 
   abbrev pub on_arithmetic : Option Op → ℕ → List W → P → Step P W

@@ -1,7 +1,7 @@
 // A run over any kind of scalars.
 ghost use Rattle.std.specs.Prelude.{◌≡◌, ◌≤◌, ℕ, Some, IfOk, IsSome, OnOk, map, vec_len};
 ghost use Rattle.px_cells.specs.Plain.{plain, plain_algebra};
-ghost use Rattle.px_program.specs.Formed.{Follow, instr_at};
+ghost use Rattle.px_program.specs.Formed.{Follow, all_params, instr_at};
 ghost use Rattle.px_verify.specs.Typing.{IsTyped};
 ghost use Rattle.px_interp.specs.Run.{course_by, no_pool, seen_events, seen_gaps};
 ghost use Rattle.px_interp.specs.Table.{first, run};
@@ -45,7 +45,7 @@ pub fn trace<W: Worded>(
     requires follow { Follow 0 method.now.code }
     requires typed { IsTyped method.now }
     requires pool { W.sound pool.old }
-    requires args { AreArguments (W.stands pool.old) method.now.params args.now }
+    requires args { AreArguments (W.stands pool.old) (all_params method.now) args.now }
     ensures seen { IfOk result (λ t. t.seen.items ≡ (run W.algebra steps method.now number args.now (first pool.old)).seen) }
     ensures end { IfOk result (λ t. (run W.algebra steps method.now number args.now (first pool.old)).end ≡ Some t.end) }
     ensures pool_after { OnOk result (pool.new ≡ (run W.algebra steps method.now number args.now (first pool.old)).pool) }

@@ -13,7 +13,7 @@ use px_rank::gap;
 use px_words::Op;
 use std::alloc::{AllocError, Global};
 
-/// What a step leads to: an offset, perhaps behind an event, or an end.
+/// What a step leads to: an offset, perhaps after an event, or an end.
 #[derive(Drop)]
 pub enum Next<W> {
     Goes(u32),
@@ -21,7 +21,7 @@ pub enum Next<W> {
     Ends(End),
 }
 
-/// Where an instruction stands: the number of its method, its offset, and the offset behind it.
+/// Where an instruction stands: the number of its method, its offset, and the offset after it.
 #[derive(Clone, Copy)]
 pub struct Position {
     pub method: u32,
@@ -161,8 +161,13 @@ fn on_move<W: Worded>(
             stack.push(args[*n as usize])?;
             Ok(Next::Goes(next))
         }
-        Move::Constant { wide, pattern } => {
-            let x = constant(alloc, pool, *wide, *pattern)?;
+        Move::Constant32(pattern) => {
+            let x = constant(alloc, pool, false, u64::from(*pattern))?;
+            stack.push(x)?;
+            Ok(Next::Goes(next))
+        }
+        Move::Constant64(pattern) => {
+            let x = constant(alloc, pool, true, *pattern)?;
             stack.push(x)?;
             Ok(Next::Goes(next))
         }

@@ -1,9 +1,11 @@
 -- The places of array parameters: what is met is there, and has a type.
-use Rattle.std.proofs.Common.{◌≡◌, ℕ, suc, ◌+◌, ◌<◌, ◌≤◌, Bool, true, false, List, [], ◌∷◌, ◌++◌, length, refl, sym, ap, ◌∙◌, subst, arith, map}
-use Rattle.std.specs.Prelude.{◌==◌, ◌||◌, if◌then◌else◌}
-use Rattle.std.specs.List.{AllByRecursion, list_any}
+use Rattle.std.proofs.Common.{◌≡◌, ℕ, zero, suc, ◌+◌, ◌<◌, ◌≤◌, Bool, true, false, List, [], ◌∷◌, ◌++◌, length, refl, sym, ap, ◌∙◌, subst, arith, map}
+use Rattle.std.specs.Prelude.{◌==◌, ◌||◌, if◌then◌else◌, slice_get}
+use Rattle.std.specs.List.{AllByRecursion, list_all, list_any}
+use Rattle.std.proofs.lemmas.Bool.{and_from}
 use Rattle.std.proofs.lemmas.List.{length-append, length-map}
 use Rattle.px_program.specs.Alone.{array_of, types_with}
+use Rattle.px_program.specs.Arguments.{AreGiven, can_be_given, has_integers, is_integer}
 use Rattle.px_program.specs.Formed.{FitsPlace, IsInteger}
 use Rattle.px_program.specs.Library.{library_types}
 use Rattle.px_program.specs.declared.program.Place.{Place}
@@ -148,3 +150,51 @@ pub params_fit : (elements params ps : List Place) (arrays : List Bool) → AllB
 params_fit elements params ps arrays are elements_are params_are =
     subst (λ es. AllByRecursion (FitsPlace (types_with es)) params) (sym elements_are)
     (subst (λ qs. AllByRecursion (FitsPlace (types_with (elements_of ps arrays))) qs) (sym params_are) (fit_whole ps arrays are))
+
+-- PARAMETERS CAN BE GIVEN
+
+integer_is : (place : Place) → IsInteger place → is_integer place ≡ true
+integer_is (places.Ref type) is = absurd is
+integer_is _ is = refl
+
+integer_given : (types : List TypeInfo) (place : Place) → IsInteger place → can_be_given types place ≡ true
+integer_given types (places.Ref type) is = absurd is
+integer_given types _ is = refl
+
+element_at : (elements : List Place) (k : ℕ) → AllByRecursion IsInteger elements → k < length elements → has_integers (slice_get (map array_of elements) k) ≡ true
+element_at [] k are less = absurd (omega arith)
+element_at (place ∷ elements) zero are less = integer_is place are.0
+element_at (place ∷ elements) (suc k) are less = element_at elements k are.1 (omega arith)
+
+behind : (front types : List TypeInfo) (k : ℕ) → slice_get (front ++ types) (length front + k) ≡ slice_get types k
+behind [] types k = let same : 0 + k ≡ k = omega arith in ap (slice_get types) same
+behind (type ∷ front) types k =
+    let same : length (type ∷ front) + k ≡ suc (length front + k) = omega arith in ap (slice_get ((type ∷ front) ++ types)) same ∙ behind front types k
+
+param_given : (elements : List Place) (is_array : Bool) (place : Place) → AllByRecursion IsInteger elements → IsInteger place → (is_array ≡ true → has_place elements place ≡ true)
+    → can_be_given (types_with elements) (param_of elements is_array place) ≡ true
+param_given elements false place are is has = integer_given (types_with elements) place is
+param_given elements true place are is has =
+    ap has_integers (behind library_types (map array_of elements) (position elements place)) ∙ element_at elements (position elements place) are (position_within elements place (has refl))
+
+all_given : (elements found ps : List Place) (arrays : List Bool) → AllByRecursion IsInteger elements → AllByRecursion IsInteger ps → ((place : Place) → has_place (elements_from found ps arrays) place ≡ true → has_place elements place ≡ true)
+    → list_all (can_be_given (types_with elements)) (params_of elements ps arrays) ≡ true
+all_given elements found [] arrays are integers has = refl
+all_given elements found (p ∷ ps) [] are integers has = refl
+all_given elements found (p ∷ ps) (b ∷ arrays) are integers has =
+    and_from (can_be_given (types_with elements) (param_of elements b p)) (list_all (can_be_given (types_with elements)) (params_of elements ps arrays))
+    (param_given elements b p are integers.0 (λ e. has p (met found ps b arrays p e))) (all_given elements (with_place found b p) ps arrays are integers.1 has)
+
+params_few : (elements ps : List Place) (arrays : List Bool) → length (params_of elements ps arrays) ≤ length ps
+params_few elements [] arrays = omega arith
+params_few elements (p ∷ ps) [] = omega arith
+params_few elements (p ∷ ps) (b ∷ arrays) = omega (arith, params_few elements ps arrays)
+
+-- the parameters are what can be given, over the types with the arrays of their elements
+pub params_given : (elements params ps : List Place) (arrays : List Bool) → AllByRecursion IsInteger ps → length ps ≤ 16 → elements ≡ elements_of ps arrays → params ≡ params_of (elements_of ps arrays) ps arrays
+    → AreGiven (types_with elements) params
+params_given elements params ps arrays are few elements_are params_are =
+    let met_elements = elements_of ps arrays in
+    subst (λ es. AreGiven (types_with es) params) (sym elements_are)
+    (subst (AreGiven (types_with met_elements)) (sym params_are)
+    (record { few = omega (arith, params_few met_elements ps arrays, few); each = all_given met_elements [] ps arrays (elements_integers ps arrays are) are (λ place has. has) }))

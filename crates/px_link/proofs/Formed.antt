@@ -1,5 +1,5 @@
 -- The program of a well formed body is well formed.
-use Rattle.std.proofs.Common.{◌≡◌, ◌≢◌, ℕ, ◌<◌, List, [], ◌∷◌, None, true, false, length, refl, arith, map}
+use Rattle.std.proofs.Common.{◌≢◌, ℕ, ◌<◌, List, [], ◌∷◌, None, length, refl, arith, map}
 use Rattle.std.specs.Prelude.{IfSome}
 use Rattle.std.specs.List.{AllByRecursion, AllZip}
 use Rattle.std.proofs.lemmas.List.{length-map}
@@ -56,7 +56,6 @@ formed_in elements name body params formed fit =
       params = fit;
       ret = tt;
       locals = tt;
-      receiver = λ (e : true ≡ false). absurd (cc);
       operands = all.1;
       classes = no_classes (λ class. class < length program.types) body.clauses;
     }

@@ -5,6 +5,8 @@ pub mod Elements
 pub mod Entries
 pub mod Finding
 pub mod Formed
+pub mod Given
+pub mod InOrder
 pub mod LinkedBases
 pub mod LinkedCodes
 pub mod LinkedEntry

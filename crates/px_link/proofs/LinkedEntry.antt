@@ -1,48 +1,35 @@
 -- The entry of a linked program can begin.
-use Rattle.std.proofs.Common.{◌≡◌, ◌≢◌, ℕ, ◌+◌, ◌≤◌, Bool, true, false, List, [], ◌∷◌, ◌++◌, length, map, Option, Some, None, refl, sym, ap, ◌∙◌, subst, arith, eqb-true, eq-eqb}
-use Rattle.std.specs.Prelude.{◌==◌, ◌&&◌, ◌||◌, not, codes, drop, find, if◌then◌else◌, slice_get}
+use Rattle.std.proofs.Common.{◌≡◌, ◌≢◌, ℕ, ◌+◌, Bool, true, false, List, [], ◌∷◌, map, Option, Some, None, refl, sym, ap, ◌∙◌, subst, eqb-true, eq-eqb}
+use Rattle.std.specs.Prelude.{◌==◌, ◌&&◌, ◌||◌, not, codes, find, if◌then◌else◌, slice_get}
 use Rattle.std.specs.List.{AllByRecursion}
 use Rattle.std.specs.Str.{bytes_eq}
-use Rattle.std.proofs.lemmas.Bool.{and_parts, cond-false, cond-true, cond_both, eqb-false, not-true, or_parts}
-use Rattle.std.proofs.lemmas.List.{length-map}
+use Rattle.std.proofs.lemmas.Bool.{and_parts, cond-true, cond_both, eqb-false, not-true}
 use Rattle.std.proofs.lemmas.Option.{same_Some}
 use Rattle.px_meta.specs.Members.{owner_of}
 use Rattle.px_meta.specs.Rows.{cell, is_in, methods, rows_in, text_at}
 use Rattle.px_link_methods.specs.Codes.{Numbering, owner_number, place_of}
-use Rattle.px_link_methods.specs.Methods.{IsMethod, place_of_type, receiver, sig_at}
+use Rattle.px_link_methods.specs.Methods.{IsMethod, place_of_type, sig_at}
 use Rattle.px_link_tokens.specs.Operands.{is_there, is_void}
 use Rattle.px_pe.specs.Image as pe
+use Rattle.px_program.specs.Arguments.{arguments_of, params_in}
 use Rattle.px_program.specs.Formed.{CanBegin, HasMethod, IsMaker, MadeBy, entry_of, method_at}
 use Rattle.px_program.specs.declared.program.Method.{Method}
-use Rattle.px_program.specs.declared.program.Place.{Place}
-use Rattle.px_program.specs.declared.program.Place.TheVariants as places
 use Rattle.px_program.specs.declared.program.Program.{Program}
 use Rattle.px_link_reach.specs.declared.body.Whole.{Whole}
 use Rattle.px_sig.specs.declared.sig.MethodSig.{MethodSig}
-use Rattle.px_sig.specs.declared.sig.SigType.{SigType}
 use Rattle.px_tables.specs.Metadata.{View}
 use Rattle.px_link_types.specs.Keys.{is_class}
-use Rattle.px_link.specs.Link.{Reads, arguments_in, arguments_of, is_argument, is_maker, is_nil, maker_in, maker_number, rows_of, starts_of, takes_nothing, unfit_from}
+use Rattle.px_link.specs.Link.{Reads, is_maker, is_nil, maker_in, maker_number, rows_of, starts_of, takes_nothing}
 use Rattle.px_link.proofs.LinkedOperands.{HasLinked, HasNumbered, has_code, is_instance, no_return, same_sig}
 use Rattle.px_link.proofs.LinkedProgram.{has_numbered, numbering_of}
 use Rattle.px_link_methods.proofs.RowPlaces.{found_passes, in_at}
 
 -- PARAMETERS
 
-abbrev params_by : View → Numbering → ℕ → MethodSig → List Place
-params_by v n row sig = receiver v n.keys (owner_of v methods row) sig.has_this ++ map (place_of_type v n.keys) sig.params
+-- the parameters of a method are those of its signature
+pub params_are : (v : View) (n : Numbering) (row : ℕ) (whole : Whole) (method : Method) (sig : MethodSig) → IsMethod v n row whole method → sig_at v row ≡ Some sig → method.params ≡ map (place_of_type v n.keys) sig.params
+params_are v n row whole method sig is e = is.params ∙ ap (λ (s : MethodSig). map (place_of_type v n.keys) s.params) (same_sig v n row whole method sig is e)
 
-params_are : (v : View) (n : Numbering) (row : ℕ) (whole : Whole) (method : Method) (sig : MethodSig) → IsMethod v n row whole method → sig_at v row ≡ Some sig → (this : Bool) → sig.has_this ≡ this
-    → method.params ≡ receiver v n.keys (owner_of v methods row) this ++ map (place_of_type v n.keys) sig.params
-params_are v n row whole method sig is e this same =
-    is.params ∙ ap (params_by v n row) (same_sig v n row whole method sig is e) ∙ ap (λ b. receiver v n.keys (owner_of v methods row) b ++ map (place_of_type v n.keys) sig.params) same
-
--- an instance method has its receiver before its parameters
-pub instance_params : (v : View) (n : Numbering) (row : ℕ) (whole : Whole) (method : Method) (sig : MethodSig) → IsMethod v n row whole method → sig_at v row ≡ Some sig → sig.has_this ≡ true
-    → method.params ≡ places.Ref (owner_number v n.keys (owner_of v methods row)) ∷ map (place_of_type v n.keys) sig.params
-instance_params v n row whole method sig is e this = params_are v n row whole method sig is e true this
-
--- a static method is given all its parameters
 is_static : (v : View) (n : Numbering) (row : ℕ) (whole : Whole) (method : Method) (sig : MethodSig) → IsMethod v n row whole method → sig_at v row ≡ Some sig → sig.has_this ≡ false → method.is_static ≡ true
 is_static v n row whole method sig is e this = is.is_static ∙ ap (λ (s : MethodSig). not s.has_this) (same_sig v n row whole method sig is e) ∙ ap not this
 
@@ -100,9 +87,7 @@ module _ (v : View) (image : pe.View) (n : Numbering) (program : Program) (has :
       instance = is_instance v n maker linked.whole linked.method is.takes.sig linked.is is.takes.has_sig is.takes.this;
       owner = linked.is.owner ∙ ap (owner_number v n.keys) is.owner ∙ sym entry.is.owner;
       no_return = no_return v n maker linked.whole linked.method is.takes.sig linked.is is.takes.has_sig is.takes.void;
-      receiver_alone =
-          ap length (instance_params v n maker linked.whole linked.method is.takes.sig linked.is is.takes.has_sig is.takes.this)
-          ∙ ap (λ types. length (places.Ref (owner_number v n.keys (owner_of v methods maker)) ∷ map (place_of_type v n.keys) types)) is.takes.none;
+      no_params = params_are v n maker linked.whole linked.method is.takes.sig linked.is is.takes.has_sig ∙ ap (map (place_of_type v n.keys)) is.takes.none;
       code = has_code v image n program maker linked is.body;
     };
   }
@@ -144,29 +129,5 @@ module _ (v : View) (image : pe.View) (name : List ℕ) (program : Program) (r :
 
   -- ARGUMENTS
 
-  arguments_by : (method : Method) (whole : Whole) → IsMethod v (numbering_of r) r.method whole method → (this : Bool) → r.sig.has_this ≡ this → arguments_in (Some method) ≡ map (place_of_type v r.keys) r.sig.params
-  arguments_by method whole is true this =
-      cond-false method.is_static method.params (drop 1 method.params) (is_instance v (numbering_of r) r.method whole method r.sig is r.entry.found.has_sig this)
-      ∙ ap (drop 1) (instance_params v (numbering_of r) r.method whole method r.sig is r.entry.found.has_sig this)
-  arguments_by method whole is false this =
-      cond-true method.is_static method.params (drop 1 method.params) (is_static v (numbering_of r) r.method whole method r.sig is r.entry.found.has_sig this)
-      ∙ params_are v (numbering_of r) r.method whole method r.sig is r.entry.found.has_sig false this
-
-  arguments_are : arguments_of program ≡ map (place_of_type v r.keys) r.sig.params
-  arguments_are = ap arguments_in entry_at ∙ arguments_by entry_linked.method entry_linked.whole entry_linked.is r.sig.has_this refl
-
--- all of some types can be given, sixteen at most
-fit_few : (k : ℕ) (types : List SigType) → k ≤ 16 → unfit_from k types ≡ None → k + length types ≤ 16
-fit_few k [] within fit = omega arith
-fit_few k (type ∷ types) within fit =
-    cond_both ((k == 16) || not (is_argument type)) (Some k) (unfit_from (k + 1) types) (λ o. o ≡ None → k + length (type ∷ types) ≤ 16)
-    (λ unfit none. absurd (cc))
-    (λ fits none.
-    let below = eqb-false k 16 (or_parts (k == 16) (not (is_argument type)) fits).0 in
-    omega (arith, fit_few (k + 1) types (omega (arith, below)) none))
-    fit
-
--- a program is given sixteen arguments at most
-pub reads_few : (v : View) (image : pe.View) (name : List ℕ) (program : Program) → (r : Reads v image name program) → slice_get r.reached.rows 0 ≡ Some r.method → length (arguments_of program) ≤ 16
-reads_few v image name program r first =
-    omega (arith, ap length (arguments_are v image name program r first), length-map r.sig.params (place_of_type v r.keys), fit_few 0 r.sig.params (omega arith) r.entry.fit)
+  pub arguments_are : arguments_of program ≡ map (place_of_type v r.keys) r.sig.params
+  arguments_are = ap params_in entry_at ∙ params_are v (numbering_of r) r.method entry_linked.whole entry_linked.method r.sig entry_linked.is r.entry.found.has_sig

@@ -1,8 +1,8 @@
 -- Each method of a linked program is well formed.
-use Rattle.std.proofs.Common.{◌≡◌, ℕ, ◌<◌, ◌^◌, ◌%◌, Bool, true, false, List, [], ◌∷◌, ◌++◌, length, map, Option, Some, None, refl, sym, ap, ◌∙◌, subst, ⊎_elim, arith}
+use Rattle.std.proofs.Common.{◌≡◌, ℕ, ◌<◌, ◌^◌, ◌%◌, Bool, true, List, [], ◌∷◌, ◌++◌, length, map, Option, Some, None, refl, sym, ap, ◌∙◌, subst, ⊎_elim, arith}
 use Rattle.std.specs.Prelude.{◌==◌, IfSome, Ok, Result}
 use Rattle.std.specs.List.{AllByRecursion, AllZip, flat_map, list_all}
-use Rattle.std.proofs.lemmas.Bool.{cases_eq, cond-true, cond_both, eq-eqb, not-false}
+use Rattle.std.proofs.lemmas.Bool.{cases_eq, cond-true, cond_both, eq-eqb}
 use Rattle.std.proofs.lemmas.List.{length-map}
 use Rattle.px_code.specs.Body.{IsFormed as IsFormedBody}
 use Rattle.px_code.specs.Reading.{PlacedFault}
@@ -12,7 +12,7 @@ use Rattle.px_code.specs.declared.body.RawInstr.{RawInstr}
 use Rattle.px_meta.specs.Members.{owner_of}
 use Rattle.px_meta.specs.Rows.{cell, is_in, methods}
 use Rattle.px_link_methods.specs.Codes.{IsCode, IsInstr, IsTokenCode, Numbering, owner_number}
-use Rattle.px_link_methods.specs.Methods.{IsMethod, caught, class_number, clause_of, keys_of_body, keys_of_clause, keys_of_instr, keys_of_sig, linked_clause, met_by, place_of_type, receiver, return_place, sig_at}
+use Rattle.px_link_methods.specs.Methods.{IsMethod, caught, class_number, clause_of, keys_of_body, keys_of_clause, keys_of_instr, keys_of_sig, linked_clause, met_by, place_of_type, return_place, sig_at}
 use Rattle.px_link_methods.specs.Slots.{Forms, forms_of, is_barred}
 use Rattle.px_link_opcodes.proofs.Fitting.{Fits, FitsIf, plain_fits}
 use Rattle.px_link_opcodes.specs.Opcodes.{outside, plain_code}
@@ -23,9 +23,7 @@ use Rattle.px_program.specs.Formed as made
 use Rattle.px_program.specs.declared.instr.Code.{Code}
 use Rattle.px_program.specs.declared.instr.Instr.{Instr}
 use Rattle.px_program.specs.declared.program.Method.{Method}
-use Rattle.px_program.specs.declared.program.Place.{Place}
 use Rattle.px_program.specs.declared.program.Program.{Program}
-use Rattle.px_program.proofs.Types.{each-append}
 use Rattle.px_link_reach.specs.Bodies.{no_body, whole_at}
 use Rattle.px_link_reach.specs.Met.{IsBody, operand_at, target_of}
 use Rattle.px_link_reach.specs.declared.body.Whole.{Whole}
@@ -136,14 +134,6 @@ module _ (v : View) (image : pe.View) (n : Numbering) (program : Program) (has :
       cond_both (is_void type) None (Some (place_of_type v n.keys type)) (λ o. IfSome o (made.FitsPlace program.types)) (λ e. tt)
       (λ e. place_fits n.keys program.types has.types.count (place_key v type).depth (place_key v type).leaf is)
 
-  receiver_fits : (owner : ℕ) (this : Bool) → owner_number v n.keys owner < length program.types → AllByRecursion (made.FitsPlace program.types) (receiver v n.keys owner this)
-  receiver_fits owner false below = tt
-  receiver_fits owner true below = (below, tt)
-
-  has_receiver : (owner : ℕ) (this : Bool) (others : List Place) → this ≡ true → made.HasReceiver (owner_number v n.keys owner) (receiver v n.keys owner this ++ others)
-  has_receiver owner true others e = refl
-  has_receiver owner false others e = absurd (cc)
-
   -- CLAUSES
 
   caught_class : (raw : RawClause) → IsClass (caught v raw)
@@ -183,15 +173,11 @@ module _ (v : View) (image : pe.View) (n : Numbering) (program : Program) (has :
         };
         few_clauses = omega (arith, ap length is.clauses, length-map whole.body.clauses (linked_clause v n.keys), leads.few);
         owner = omega (arith, below, is.owner);
-        params = subst (λ ps. AllByRecursion (made.FitsPlace program.types) ps) (sym is.params)
-            (each-append (made.FitsPlace program.types) (receiver v n.keys owner is.sig.has_this) (map (place_of_type v n.keys) is.sig.params) (receiver_fits owner is.sig.has_this below)
-            (types_fit is.sig.params (each-front IsNumbered (map (place_key v) is.sig.params) (place_key v is.sig.ret ∷ []) of_sig)));
+        params =
+            subst (λ ps. AllByRecursion (made.FitsPlace program.types) ps) (sym is.params)
+            (types_fit is.sig.params (each-front IsNumbered (map (place_key v) is.sig.params) (place_key v is.sig.ret ∷ []) of_sig));
         ret = subst (λ r. IfSome r (made.FitsPlace program.types)) (sym is.ret) (return_fits is.sig.ret (each-back IsNumbered (map (place_key v) is.sig.params) (place_key v is.sig.ret ∷ []) of_sig).0);
         locals = subst (λ ps. AllByRecursion (made.FitsPlace program.types) ps) (sym is.locals) (types_fit whole.locals (each-front IsNumbered (map (place_key v) whole.locals) (in_code ++ in_clauses) of_body));
-        receiver = λ instance.
-            subst (λ o. made.HasReceiver o method.params) (sym is.owner)
-            (subst (λ ps. made.HasReceiver (owner_number v n.keys owner) ps) (sym is.params)
-            (has_receiver owner is.sig.has_this (map (place_of_type v n.keys) is.sig.params) (not-false is.sig.has_this (sym is.is_static ∙ instance))));
         operands = codes.1;
         classes = subst (λ cs. AllByRecursion (λ c. IfSome c.class (λ class. class < length program.types)) cs) (sym is.clauses) (classes_fit whole.body.clauses of_clauses);
       }

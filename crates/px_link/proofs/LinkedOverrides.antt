@@ -1,6 +1,6 @@
 -- Each method that takes the place of another in a type of a linked program may.
 use Rattle.std.proofs.Common.{◌≡◌, inl, inr, ℕ, zero, suc, ◌+◌, ◌-◌, true, List, [], ◌∷◌, Option, Some, None, refl, sym, ap, ◌∙◌, subst, arith, eqb-true, eq-eqb}
-use Rattle.std.specs.Prelude.{◌==◌, drop, slice_get}
+use Rattle.std.specs.Prelude.{◌==◌, slice_get}
 use Rattle.std.specs.List.{AllByRecursion}
 use Rattle.std.proofs.lemmas.Bool.{or_left, or_right}
 use Rattle.std.proofs.lemmas.Option.{same_Some, slice_get_within}
@@ -26,9 +26,10 @@ use Rattle.px_link_types.specs.Numbers.{has_key}
 use Rattle.px_link_types.proofs.Formed.{at_place}
 use Rattle.px_link_types.proofs.Known.{has_at}
 use Rattle.px_link.specs.Link.{Reads}
-use Rattle.px_link.specs.Overrides.{AreOverrides, HasOverrides, IsLinkedType, first_of, nearest, or_later, pair_of}
+use Rattle.px_link.specs.Overrides.{AreOverrides, HasOverrides, IsLinkedType, first_of, in_order, nearest, or_later, pair_of}
+use Rattle.px_link.proofs.InOrder.{named_in_order}
 use Rattle.px_link.proofs.LinkedBases.{all_apart, derives_from, kind_of, number_at}
-use Rattle.px_link.proofs.LinkedEntry.{instance_params}
+use Rattle.px_link.proofs.LinkedEntry.{params_are}
 use Rattle.px_link.proofs.LinkedOperands.{HasLinked, is_instance, same_sig}
 use Rattle.px_link.proofs.LinkedProgram.{has_numbered, numbering_of, owner_numbered}
 use Rattle.px_link_methods.proofs.RowPlaces.{at_index, each_led_to, found_in, found_passes, one_of_each}
@@ -111,6 +112,10 @@ abbrev pub HaveOverriders : List (List ℕ) → List ℕ → List ℕ → Type 0
 HaveOverriders lists rows targets = (target : ℕ) → is_in targets target ≡ true → AllByRecursion (λ row. is_in rows row ≡ true) (with_overriders lists target)
 
 module _ (v : View) (image : pe.View) (name : List ℕ) (program : Program) (r : Reads v image name program) (owned : AllByRecursion (IsOwned v) r.reached.rows) (met : HaveOverriders r.lists r.reached.rows r.reached.virtual_targets) where
+  -- those methods that a `callvirt` names, by their numbers
+  abbrev named_rows : List ℕ
+  named_rows = in_order r.reached.rows r.reached.virtual_targets
+
   linked_at : (row : ℕ) → is_in r.reached.rows row ≡ true → HasLinked v image (numbering_of r) program row
   linked_at row there = (has_numbered v image name program r).methods row there
 
@@ -133,7 +138,7 @@ module _ (v : View) (image : pe.View) (name : List ℕ) (program : Program) (r :
             second.is.ret ∙ ap (λ (s : MethodSig). return_place v r.keys s.ret) (same_sig v n method second.whole second.method both.sig second.is both.has_sig ∙ sym (same_sig v n target first.whole first.method both.sig first.is both.other_has_sig))
             ∙ sym first.is.ret;
         params =
-            ap (drop 1) (instance_params v n method second.whole second.method both.sig second.is both.has_sig this) ∙ sym (ap (drop 1) (instance_params v n target first.whole first.method both.sig first.is both.other_has_sig this));
+            params_are v n method second.whole second.method both.sig second.is both.has_sig ∙ sym (params_are v n target first.whole first.method both.sig first.is both.other_has_sig);
         owned = subst (IsKindOf program.types type) (sym second.is.owner) kind;
         derives =
             subst (λ k. DerivesFrom program.types k first.method.owner) (sym second.is.owner)
@@ -141,28 +146,28 @@ module _ (v : View) (image : pe.View) (name : List ℕ) (program : Program) (r :
             (derives_from v _ r.keys program.types r.numbers (has_numbered v image name program r).types (owner_of v methods method) (owner_of v methods target) (owner_numbered v image name program r method method_there) both.derives));
       }
 
-  one_pair : (row : ℕ) (behind : List ℕ) → has_key r.keys (alone (Defined row)) ≡ true → IsChain (base_row v) row behind → (target : ℕ) → is_in r.reached.virtual_targets target ≡ true
+  one_pair : (row : ℕ) (behind : List ℕ) → has_key r.keys (alone (Defined row)) ≡ true → IsChain (base_row v) row behind → (target : ℕ) → is_in named_rows target ≡ true
       → (found : Option ℕ) → nearest v (row ∷ behind) (overriders_in r.lists target) ≡ found → AllByRecursion (Overrides program (owner_number v r.keys row)) (pair_of (numbering_of r) target found)
   one_pair row behind has chain target named None is = tt
   one_pair row behind has chain target named (Some method) is =
       let rows = r.reached.rows in
       let In : ℕ → Type 0 = λ other. is_in rows other ≡ true in
       let one = nearest_is v (row ∷ behind) (overriders_in r.lists target) method is in
-      let there = met target named in
+      let there = met target (named_in_order rows r.reached.virtual_targets target named) in
       let is_row = (one_of_each (IsOwned v) rows target owned there.0).row in
       let kind = kind_of v _ r.keys program.types r.numbers (has_numbered v image name program r).types row behind has chain (owner_of v methods method) one.owned in
       let both = of_one_sig v method target (overriders_are v r.lists target r.overriding is_row method one.among) in
       (may_replace (owner_number v r.keys row) target method there.0 (one_of_each In (overriders_in r.lists target) method there.1 one.among) kind both, tt)
 
-  all_pairs : (row : ℕ) (pairs : List (ℕ × ℕ)) → has_key r.keys (alone (Defined row)) ≡ true → HasOverrides v (numbering_of r) r.lists r.reached.virtual_targets row pairs → AllByRecursion (Overrides program (owner_number v r.keys row)) pairs
+  all_pairs : (row : ℕ) (pairs : List (ℕ × ℕ)) → has_key r.keys (alone (Defined row)) ≡ true → HasOverrides v (numbering_of r) r.lists named_rows row pairs → AllByRecursion (Overrides program (owner_number v r.keys row)) pairs
   all_pairs row pairs has is =
       let P = Overrides program (owner_number v r.keys row) in
       let chain = row ∷ is.behind in
       let pairs_for : ℕ → List (ℕ × ℕ) = λ target. pair_of (numbering_of r) target (nearest v chain (overriders_in r.lists target)) in
       subst (AllByRecursion P) (sym is.are)
-      (each_led_to P pairs_for r.reached.virtual_targets (λ target named. one_pair row is.behind has is.chain target named (nearest v chain (overriders_in r.lists target)) refl))
+      (each_led_to P pairs_for named_rows (λ target named. one_pair row is.behind has is.chain target named (nearest v chain (overriders_in r.lists target)) refl))
 
-  of_key : (type depth : ℕ) (leaf : Leaf) (pairs : List (ℕ × ℕ)) → slice_get r.keys type ≡ Some (record { depth = depth; leaf = leaf }) → AreOverrides v (numbering_of r) r.lists r.reached.virtual_targets depth leaf pairs
+  of_key : (type depth : ℕ) (leaf : Leaf) (pairs : List (ℕ × ℕ)) → slice_get r.keys type ≡ Some (record { depth = depth; leaf = leaf }) → AreOverrides v (numbering_of r) r.lists named_rows depth leaf pairs
       → AllByRecursion (Overrides program type) pairs
   of_key type zero (Number integer) pairs at is = subst (AllByRecursion (Overrides program type)) (sym is) tt
   of_key type zero (Library number) pairs at is = subst (AllByRecursion (Overrides program type)) (sym is) tt
@@ -170,7 +175,7 @@ module _ (v : View) (image : pe.View) (name : List ℕ) (program : Program) (r :
       subst (λ k. AllByRecursion (Overrides program k) pairs) (number_at r.keys type (alone (Defined row)) (all_apart r.numbers) at) (all_pairs row pairs (has_at r.keys type (alone (Defined row)) at) is)
   of_key type (suc depth) leaf pairs at is = subst (AllByRecursion (Overrides program type)) (sym is) tt
 
-  of_linked : (type : ℕ) (key : Key) (bare info : TypeInfo) → slice_get r.keys type ≡ Some key → IsLinkedType v (numbering_of r) r.lists r.reached.virtual_targets key bare info → AllByRecursion (Overrides program type) info.overrides
+  of_linked : (type : ℕ) (key : Key) (bare info : TypeInfo) → slice_get r.keys type ≡ Some key → IsLinkedType v (numbering_of r) r.lists named_rows key bare info → AllByRecursion (Overrides program type) info.overrides
   of_linked type key bare info at is =
       let same : info.overrides ≡ is.pairs = ap (λ (t : TypeInfo). t.overrides) is.is in
       subst (AllByRecursion (Overrides program type)) (sym same) (of_key type key.depth key.leaf is.pairs at is.overrides)

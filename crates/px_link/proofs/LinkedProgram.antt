@@ -14,6 +14,7 @@ use Rattle.px_pe.specs.Image as pe
 use Rattle.px_program.specs.Formed.{AreTypes, CanBegin, HasMethod, IsFormedIn, IsWellFormed, Overrides}
 use Rattle.px_program.specs.declared.program.Method.{Method}
 use Rattle.px_program.specs.declared.program.Program.{Program}
+use Rattle.px_program.specs.Overriding.{AreByFirst}
 use Rattle.px_program.specs.declared.program.TypeInfo.{TypeInfo}
 use Rattle.px_program.proofs.Types.{each-weaken, each_at}
 use Rattle.px_link_reach.specs.Bodies.{whole_at}
@@ -27,6 +28,7 @@ use Rattle.px_link_types.specs.Numbers.{has_key, is_numbered}
 use Rattle.px_link_types.proofs.Closed.{grows}
 use Rattle.px_link_types.proofs.Formed.{has_by}
 use Rattle.px_link.specs.Link.{Reads}
+use Rattle.px_link.specs.Overrides.{in_order}
 use Rattle.px_link.proofs.LinkedMethods.{AreMetIn, HasTargets, method_formed}
 use Rattle.px_link.proofs.LinkedOperands.{HasLinked, HasNumbered}
 use Rattle.px_link.proofs.LinkedTypes.{HasDefined, defined_type, have_types, linked_types}
@@ -109,18 +111,18 @@ numbering_of r = record { keys = r.keys; rows = r.reached.rows }
 
 pub has_numbered : (v : View) (image : pe.View) (name : List ℕ) (program : Program) → (r : Reads v image name program) → HasNumbered v image (numbering_of r) program
 has_numbered v image name program r = record {
-  types = have_types v (numbering_of r) r.lists r.reached.virtual_targets program.types r.types;
+  types = have_types v (numbering_of r) r.lists (in_order r.reached.rows r.reached.virtual_targets) program.types r.types;
   methods = has_linked v image (numbering_of r) r.reached.bodies program r.is_reached.bodies r.methods;
 }
 
 pub types_formed : (v : View) (image : pe.View) (name : List ℕ) (program : Program) → (r : Reads v image name program) → AreTypes r.types.bare → AreTypes program.types
-types_formed v image name program r = linked_types v (numbering_of r) r.lists r.reached.virtual_targets program.types r.types
+types_formed v image name program r = linked_types v (numbering_of r) r.lists (in_order r.reached.rows r.reached.virtual_targets) program.types r.types
 
 pub few_methods : (v : View) (image : pe.View) (name : List ℕ) (program : Program) → (r : Reads v image name program) → length r.reached.rows < 2 ^ 32 → length program.methods < 2 ^ 32
 few_methods v image name program r few = omega (arith, same_count v image (numbering_of r) r.reached.bodies program r.is_reached.bodies r.methods)
 
 -- all types that the methods meet have numbers
-all_numbered : (v : View) (image : pe.View) (name : List ℕ) (program : Program) → (r : Reads v image name program) → AllByRecursion (λ pair. AreNumberedIn r.keys (met_by v pair)) (zip r.reached.rows r.reached.bodies)
+pub all_numbered : (v : View) (image : pe.View) (name : List ℕ) (program : Program) → (r : Reads v image name program) → AllByRecursion (λ pair. AreNumberedIn r.keys (met_by v pair)) (zip r.reached.rows r.reached.bodies)
 all_numbered v image name program r = each_of_flat_map (λ key. is_numbered r.keys key ≡ true) (met_by v) (zip r.reached.rows r.reached.bodies) (grows r.numbers).met_numbered
 
 -- the owner of a method of the program has a number
@@ -143,11 +145,13 @@ methods_formed v image name program r closed =
 
 -- Where its methods have all that they call, a program is well formed if its entry can begin and each method that takes the place of another may.
 pub well_formed_by : (v : View) (image : pe.View) (name : List ℕ) (program : Program) → (r : Reads v image name program) → AreTypes r.types.bare → length r.reached.rows < 2 ^ 32 → IsClosed v image r.lists r.reached.rows
-    → HasMethod (CanBegin program) program program.entry → ((type : ℕ) (info : TypeInfo) → slice_get program.types type ≡ Some info → AllByRecursion (Overrides program type) info.overrides) → IsWellFormed program
-well_formed_by v image name program r types few closed entry overrides = record {
+    → HasMethod (CanBegin program) program program.entry → ((type : ℕ) (info : TypeInfo) → slice_get program.types type ≡ Some info → AllByRecursion (Overrides program type) info.overrides)
+    → AllByRecursion (λ (info : TypeInfo). AreByFirst info.overrides) program.types → IsWellFormed program
+well_formed_by v image name program r types few closed entry overrides by_first = record {
   types = types_formed v image name program r types;
   few_methods = few_methods v image name program r few;
   entry = entry;
   methods = methods_formed v image name program r closed;
   overrides = overrides;
+  by_first = by_first;
 }

@@ -1,10 +1,11 @@
 -- The program of the methods that are reached, or the fault of the first body that isn't read.
-use Rattle.std.proofs.Common.{◌≡◌, ℕ, ◌^◌, ◌<◌, ◌≤◌, true, List, ◌∷◌, Option, Result, Ok, Err, length, refl, sym, ap, ◌∙◌, subst}
+use Rattle.std.proofs.Common.{◌≡◌, ℕ, ◌^◌, ◌<◌, true, List, ◌∷◌, Option, Result, Ok, Err, length, refl, sym, ap, ◌∙◌, subst}
 use Rattle.std.specs.Prelude.{IfOk}
 use Rattle.px_link.specs.declared.fault.LinkFault.{LinkFault}
 use Rattle.std.specs.List.{AllByRecursion}
 use Rattle.px_link_methods.specs.Methods.{AreMethods, met_by_all}
 use Rattle.px_pe.specs.Image as pe
+use Rattle.px_program.specs.Arguments.{AreGiven, arguments_of}
 use Rattle.px_program.specs.Formed.{IsWellFormed}
 use Rattle.px_program.specs.declared.program.Layout.{Layout}
 use Rattle.px_program.specs.declared.program.Method.{Method}
@@ -22,14 +23,15 @@ use Rattle.px_link_types.proofs.Closed.{grows}
 use Rattle.px_link_types.specs.Numbers.{Numbers, is_numbered, library_keys}
 use Rattle.px_link_types.specs.declared.key.Key.{Key}
 use Rattle.px_link.specs.Layout.{IsLayout}
-use Rattle.px_link.specs.Link.{Blames, arguments_of, maker_number, rows_of}
+use Rattle.px_link.specs.Link.{Blames, maker_number, rows_of}
+use Rattle.px_link.specs.Overrides.{in_order}
 use Rattle.px_link.specs.Parts.{HasTypes, IsEntryOf, IsLinked, fault_of}
 use Rattle.px_link.specs.declared.entry.Entry.{Entry}
-use Rattle.px_link.proofs.Assembly.{few, well_formed}
+use Rattle.px_link.proofs.Assembly.{given, well_formed}
 
 pub linked_by : (v : View) (image : pe.View) (name : List ℕ) (entry : Entry) (lists : List (List ℕ)) (reached : Reached) (keys : List Key) (types : List TypeInfo) (methods : List Method) (maker : Option ℕ) (layout : Layout)
     → IsEntryOf v name entry → AreLists v lists → IsReached v image lists (entry.method ∷ rows_of entry.maker) reached → Numbers v library_keys (met_by_all v reached.rows reached.bodies) keys
-    → HasTypes v (record { keys = keys; rows = reached.rows }) lists reached.virtual_targets types → AreMethods v (record { keys = keys; rows = reached.rows }) reached.bodies methods
+    → HasTypes v (record { keys = keys; rows = reached.rows }) lists (in_order reached.rows reached.virtual_targets) types → AreMethods v (record { keys = keys; rows = reached.rows }) reached.bodies methods
     → maker ≡ maker_number reached.rows entry.maker → IsLayout v (record { keys = keys; rows = reached.rows }) layout → length reached.rows < 2 ^ 32 → AllByRecursion (IsOwned v) reached.rows
     → IsLinked v image name (record { types = types; methods = methods; entry = 0; maker = maker; layout = layout })
 linked_by v image name entry lists reached keys types methods maker layout is are_lists is_reached numbers typed made maker_is laid few owned = record {
@@ -65,7 +67,7 @@ as_read reached rows bodies targets r b t =
 pub linked_from : (v : View) (image : pe.View) (name : List ℕ) (entry : Entry) (lists : List (List ℕ)) (reached : Reached) (rows : List ℕ) (bodies : List Whole) (targets : List ℕ) (keys : List Key) (types : List TypeInfo) (methods : List Method) (maker : Option ℕ) (layout : Layout)
     → rows ≡ reached.rows → bodies ≡ reached.bodies → targets ≡ reached.virtual_targets
     → IsEntryOf v name entry → AreLists v lists → IsReached v image lists (entry.method ∷ rows_of entry.maker) reached → Numbers v library_keys (met_by_all v rows bodies) keys
-    → HasTypes v (record { keys = keys; rows = rows }) lists targets types → AreMethods v (record { keys = keys; rows = rows }) bodies methods
+    → HasTypes v (record { keys = keys; rows = rows }) lists (in_order rows targets) types → AreMethods v (record { keys = keys; rows = rows }) bodies methods
     → maker ≡ maker_number rows entry.maker → IsLayout v (record { keys = keys; rows = rows }) layout → length reached.rows < 2 ^ 32 → AllByRecursion (IsOwned v) reached.rows
     → IsLinked v image name (record { types = types; methods = methods; entry = 0; maker = maker; layout = layout })
 linked_from v image name entry lists reached rows bodies targets keys types methods maker layout r b t is are_lists is_reached numbers typed made maker_is laid few owned =
@@ -89,12 +91,12 @@ bad_body v image name entry lists (reach_faults.Bad kind at number) is are refus
   refused = subst (λ m. reach.IsFirstRefused v image lists (entry.method ∷ rows_of m) number (kind, at)) is.maker refused;
 }
 
--- a linked program is well formed, and takes few arguments
+-- a linked program is well formed, and its arguments are what can be given
 pub linked_formed : (v : View) (image : pe.View) (name : List ℕ) (program : Program) → IsLinked v image name program → IsWellFormed program
 linked_formed v image name program linked = well_formed v image name program linked.reads linked.formed linked.few linked.owned
 
-pub linked_few : (v : View) (image : pe.View) (name : List ℕ) (program : Program) → IsLinked v image name program → length (arguments_of program) ≤ 16
-linked_few v image name program linked = few v image name program linked.reads
+pub linked_given : (v : View) (image : pe.View) (name : List ℕ) (program : Program) → IsLinked v image name program → AreGiven program.types (arguments_of program)
+linked_given v image name program linked = given v image name program linked.reads
 
 -- what follows of a program that is linked
 pub of_linked : (Q : Program → Type 0) (v : View) (image : pe.View) (name : List ℕ) (outcome : Result Program LinkFault) → ((program : Program) → IsLinked v image name program → Q program) → IfOk outcome (IsLinked v image name) → IfOk outcome Q

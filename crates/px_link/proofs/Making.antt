@@ -20,18 +20,17 @@ use Rattle.px_meta.proofs.Alike.{text_is}
 
 -- PARAMETERS
 
-unfit_now : (k : ℕ) (types : List SigType) (type : SigType) → k < length types → type ≡ get_or types k type
-    → unfit_from k (drop k types) ≡ (if (k == 16) || not (is_argument type) then Some k else unfit_from (k + 1) (drop (k + 1) types))
-unfit_now k types type less is =
-    at_drop_more (unfit_from k) types k type less ∙ ap (λ t. unfit_from k (t ∷ drop (k + 1) types)) (sym is)
+unfit_now : (k : ℕ) (types : List SigType) (d : SigType) → k < length types
+    → unfit_from k (drop k types) ≡ (if (k == 16) || not (is_argument (get_or types k d)) then Some k else unfit_from (k + 1) (drop (k + 1) types))
+unfit_now k types d less = at_drop_more (unfit_from k) types k d less
 
-pub unfit_here : (k : ℕ) (types : List SigType) (type : SigType) → k < length types → type ≡ get_or types k type → ((k == 16) || not (is_argument type)) ≡ true
+pub unfit_here : (k : ℕ) (types : List SigType) (d : SigType) → k < length types → ((k == 16) || not (is_argument (get_or types k d))) ≡ true
     → unfit_from k (drop k types) ≡ Some k
-unfit_here k types type less is unfit = unfit_now k types type less is ∙ cond-true ((k == 16) || not (is_argument type)) (Some k) (unfit_from (k + 1) (drop (k + 1) types)) unfit
+unfit_here k types d less unfit = unfit_now k types d less ∙ cond-true ((k == 16) || not (is_argument (get_or types k d))) (Some k) (unfit_from (k + 1) (drop (k + 1) types)) unfit
 
-pub unfit_on : (k : ℕ) (types : List SigType) (type : SigType) → k < length types → type ≡ get_or types k type → ((k == 16) || not (is_argument type)) ≡ false
+pub unfit_on : (k : ℕ) (types : List SigType) (d : SigType) → k < length types → ((k == 16) || not (is_argument (get_or types k d))) ≡ false
     → unfit_from k (drop k types) ≡ unfit_from (k + 1) (drop (k + 1) types)
-unfit_on k types type less is fit = unfit_now k types type less is ∙ cond-false ((k == 16) || not (is_argument type)) (Some k) (unfit_from (k + 1) (drop (k + 1) types)) fit
+unfit_on k types d less fit = unfit_now k types d less ∙ cond-false ((k == 16) || not (is_argument (get_or types k d))) (Some k) (unfit_from (k + 1) (drop (k + 1) types)) fit
 
 pub unfit_end : (k : ℕ) (types : List SigType) → length types ≤ k → unfit_from k (drop k types) ≡ None
 unfit_end k types all = at_drop_all (unfit_from k) types k all

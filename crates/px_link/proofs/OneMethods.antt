@@ -6,10 +6,9 @@ use Rattle.std.proofs.lemmas.Bool.{true≢false}
 use Rattle.std.proofs.lemmas.Option.{same_Some}
 use Rattle.px_code.specs.Body.{is_among, with_token}
 use Rattle.px_code.specs.declared.body.RawInstr.{RawInstr}
-use Rattle.px_meta.specs.Members.{owner_of}
 use Rattle.px_meta.specs.Rows.{is_in, methods}
 use Rattle.px_link_methods.specs.Codes.{IsCode, IsInstr, IsOutside, IsTokenCode, Numbering}
-use Rattle.px_link_methods.specs.Methods.{AreMethods, IsMethod, place_of_type, receiver, return_place}
+use Rattle.px_link_methods.specs.Methods.{AreMethods, IsMethod, place_of_type, return_place}
 use Rattle.px_link_methods.specs.Slots.{Forms, forms_of}
 use Rattle.px_link_opcodes.specs.Opcodes.{plain_code}
 use Rattle.px_link_reach.specs.Met.{operand_at}
@@ -108,12 +107,11 @@ one_body_code v n forms raws code other are also = same_beside (IsInstr v n form
 pub one_linked_method : (v : View) (n : Numbering) (row : ℕ) (whole : Whole) (one other : Method) → IsMethod v n row whole one → IsMethod v n row whole other → one ≡ other
 one_linked_method v n row whole one other is also =
     let sig : is.sig ≡ also.sig = same_Some is.sig also.sig (sym is.has_sig ∙ also.has_sig) in
-    let owner = owner_of v methods row in
     same_method one other
     (one_method_name v row one.name other.name is.name also.name)
     (is.owner ∙ sym also.owner)
     (is.is_static ∙ ap (λ (s : MethodSig). not s.has_this) sig ∙ sym also.is_static)
-    (is.params ∙ ap (λ (s : MethodSig). receiver v n.keys owner s.has_this ++ map (place_of_type v n.keys) s.params) sig ∙ sym also.params)
+    (is.params ∙ ap (λ (s : MethodSig). map (place_of_type v n.keys) s.params) sig ∙ sym also.params)
     (is.ret ∙ ap (λ (s : MethodSig). return_place v n.keys s.ret) sig ∙ sym also.ret)
     (is.locals ∙ sym also.locals)
     (is.max_stack ∙ sym also.max_stack)

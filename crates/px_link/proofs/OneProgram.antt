@@ -19,7 +19,7 @@ use Rattle.px_tables.specs.Metadata.{View}
 use Rattle.px_link.specs.Layout.{IsLayout}
 use Rattle.px_link.specs.Link.{AreTwo, Blames, BlamesBody, HasBadBody, HasBadParameter, HasNoBody, HasNoMaker, IsFound, Reads, first_unfit, has_maker, maker_number, maker_of, starts_of}
 use Rattle.px_link.specs.One.{ReadsOne, ReadsOrBlames}
-use Rattle.px_link.specs.Overrides.{AreLinkedTypes}
+use Rattle.px_link.specs.Overrides.{AreLinkedTypes, in_order}
 use Rattle.px_link.specs.declared.fault.LinkFault.{LinkFault}
 use Rattle.px_link.specs.declared.fault.LinkFault.TheVariants as faults
 use Rattle.px_link.proofs.OneKeys.{one_numbering}
@@ -83,7 +83,7 @@ module _ (v : View) (image : pe.View) (name : List ℕ) (one other : Program) (r
   one_program =
       let n = numbering r.keys r.reached in
       same_program one other
-      (one_linked_types v n r.lists r.reached.virtual_targets one.types other.types r.types (by_these (λ m lists reached. AreLinkedTypes v m lists reached.virtual_targets other.types) s.types))
+      (one_linked_types v n r.lists (in_order r.reached.rows r.reached.virtual_targets) one.types other.types r.types (by_these (λ m lists reached. AreLinkedTypes v m lists (in_order reached.rows reached.virtual_targets) other.types) s.types))
       (one_linked_methods v n r.reached.bodies one.methods other.methods r.methods (by_these (λ m lists reached. AreMethods v m reached.bodies other.methods) s.methods))
       (r.entry_is ∙ sym s.entry_is)
       (r.maker_is ∙ ap (λ (reached : Reached). maker_number reached.rows (maker_of v r.method r.sig)) (sym all_reached) ∙ ap (λ method. maker_number s.reached.rows (maker_of v method r.sig)) (sym same_entry)

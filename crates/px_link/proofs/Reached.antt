@@ -1,19 +1,21 @@
 -- What the rows of a program's methods say of its bodies.
-use Rattle.std.proofs.Common.{◌≡◌, ◌≢◌, ℕ, suc, Bool, true, false, List, [], ◌∷◌, Some, length, refl, ap, subst, inl, inr, arith}
+use Rattle.std.proofs.Common.{◌≡◌, ◌≢◌, ℕ, suc, Bool, true, false, List, [], ◌∷◌, Some, length, refl, ap, arith}
 use Rattle.std.specs.Prelude.{◌==◌, ◌<◌, if◌then◌else◌, slice_get, slice_index_or}
 use Rattle.std.specs.List.{AllByRecursion, AllPairs, AllZip, IsDistinct, flat_map}
-use Rattle.std.proofs.lemmas.Bool.{eq-eqb, eqb-true, ne_eqb, or_cases, or_left, or_right}
+use Rattle.std.proofs.lemmas.Bool.{ne_eqb}
 use Rattle.px_code.specs.declared.body.RawInstr.{RawInstr}
 use Rattle.px_meta.specs.Rows.{IsRow, is_in, methods}
 use Rattle.px_pe.specs.Image as pe
-use Rattle.px_program.proofs.Types.{each-append}
+use Rattle.px_program.proofs.Types.{each-append, each-weaken}
 use Rattle.px_link_types.proofs.Closed.{each-back}
 use Rattle.px_tables.specs.Metadata.{View}
 use Rattle.px_link_reach.specs.Met.{IsBody, IsOwned, IsReached, target_of, with_overriders}
-use Rattle.px_link_reach.proofs.Reaching.{calls_met, overriders_met, rows_apart}
+use Rattle.px_link_reach.proofs.Reaching.{calls_met, rows_apart, targets_apart}
 use Rattle.px_link_reach.specs.Overriders.{overriders_in}
 use Rattle.px_link_reach.specs.declared.body.Whole.{Whole}
 use Rattle.px_link_reach.specs.declared.methods.Reached.{Reached}
+use Rattle.px_link.specs.Overrides.{in_order}
+use Rattle.px_link.proofs.InOrder.{each_in_order}
 
 -- LISTS
 
@@ -32,18 +34,6 @@ unfolding IsDistinct
 distinct_by [] apart = tt
 distinct_by (row ∷ rows) apart =
     (each_unlike row rows (λ j d less. apart 0 (suc j) d (omega arith) (omega arith)), distinct_by rows (λ i j d less within. apart (suc i) (suc j) d (omega arith) (omega arith)))
-
-each_in : (P : ℕ → Type 0) (rows : List ℕ) (row : ℕ) → AllByRecursion P rows → is_in rows row ≡ true → P row
-each_in P [] row each is = absurd (cc)
-each_in P (other ∷ rows) row each is = elim (or_cases (other == row) (is_in rows row) is) [
-  | inl same ↦ subst P (eqb-true other row same) each.0
-  | inr later ↦ each_in P rows row each.1 later
-]
-
-each_self : (P : ℕ → Type 0) (rows : List ℕ) → ((row : ℕ) → is_in rows row ≡ true → P row) → AllByRecursion P rows
-each_self P [] each = tt
-each_self P (row ∷ rows) each =
-    (each row (or_left (row == row) (is_in rows row) (eq-eqb row row refl)), each_self P rows (λ other is. each other (or_right (row == other) (is_in rows other) is)))
 
 -- WHAT BODIES NAME
 
@@ -81,6 +71,9 @@ targets_in v image lists starts reached is =
     each_body v image (λ whole. AllByRecursion In (flat_map (target_of v) whole.body.code)) reached.rows reached.bodies is.bodies
     (λ k row whole at body. targets_of v In whole.body.code (λ j raw instr. target_by In lists (target_of v raw) (raw.opcode == 0x6F) (calls_met is k row whole j raw at body.read instr)))
 
-pub virtual_rows : (v : View) (image : pe.View) (lists : List (List ℕ)) (starts : List ℕ) (reached : Reached) → IsReached v image lists starts reached → AllByRecursion (IsOwned v) reached.rows → AllByRecursion (IsRow v methods) reached.virtual_targets
-virtual_rows v image lists starts reached is owned =
-    each_self (IsRow v methods) reached.virtual_targets (λ target there. (each_in (IsOwned v) reached.rows target owned (overriders_met is target there).0).row)
+-- no method is named twice by the `callvirt` of a program
+pub targets_distinct : (v : View) (image : pe.View) (lists : List (List ℕ)) (starts : List ℕ) (reached : Reached) → IsReached v image lists starts reached → IsDistinct (λ row other. row == other) reached.virtual_targets
+targets_distinct v image lists starts reached is = distinct_by reached.virtual_targets (targets_apart is)
+
+pub rows_in_order : (v : View) (rows targets : List ℕ) → AllByRecursion (IsOwned v) rows → AllByRecursion (IsRow v methods) (in_order rows targets)
+rows_in_order v rows targets owned = each_in_order (IsRow v methods) rows targets (each-weaken (IsOwned v) (IsRow v methods) (λ row is. is.row) rows owned)

@@ -1,5 +1,5 @@
 -- The program of a method of an assembly.
-use Rattle.std.specs.Prelude.{◌≡◌, ◌≢◌, ◌⊎◌, ℕ, ◌+◌, ◌==◌, ◌&&◌, ◌||◌, not, Bool, true, false, if◌then◌else◌, List, [], ◌∷◌, codes, Option, Some, None, find}
+use Rattle.std.specs.Prelude.{◌≡◌, ◌≢◌, ◌⊎◌, ℕ, ◌+◌, ◌==◌, ◌&&◌, ◌||◌, not, nat_le, Bool, true, false, if◌then◌else◌, List, [], ◌∷◌, codes, Option, Some, None, find}
 use Rattle.std.specs.Str.{bytes_eq}
 use Rattle.px_code.specs.declared.body.Body.{Body}
 use Rattle.px_code.specs.declared.body.BodyFault.{BodyFault}
@@ -12,17 +12,14 @@ use Rattle.px_link_methods.specs.Codes.{place_of}
 use Rattle.px_link_methods.specs.Methods.{AreMethods, met_by_all, sig_at}
 use Rattle.px_link_tokens.specs.Operands.{is_there, is_void}
 use Rattle.px_pe.specs.Image as pe
-use Rattle.px_program.specs.Formed.{entry_of, explicit_params}
-use Rattle.px_program.specs.declared.program.Method.{Method}
-use Rattle.px_program.specs.declared.program.Place.{Place}
 use Rattle.px_program.specs.declared.program.Program.{Program}
 use Rattle.px_link_reach.specs.Met.{IsFirstRefused, IsReached}
 use Rattle.px_link_reach.specs.Overriders.{AreLists}
 use Rattle.px_link_reach.specs.declared.methods.Reached.{Reached}
 use Rattle.px_sig.specs.declared.sig.MethodSig.{MethodSig}
 use Rattle.px_sig.specs.declared.sig.SigType.{SigType}
-use Rattle.px_sig.specs.declared.sig.SigType.TheOpen.{SigType-F, Int, Array}
-use Rattle.px_sig.specs.declared.sig.SigType.TheViews.{out-SigType}
+use Rattle.px_sig.specs.declared.sig.SigLeaf.{SigLeaf}
+use Rattle.px_sig.specs.declared.sig.SigLeaf.TheVariants.{Int}
 use Rattle.px_tables.specs.Metadata.{View}
 use Rattle.px_link_types.specs.Keys.{is_class}
 use Rattle.px_link_types.specs.Numbers.{Numbers, library_keys}
@@ -33,7 +30,7 @@ use Rattle.px_link.specs.declared.fault.RawFault.{RawFault}
 use Rattle.px_link.specs.declared.fault.RawFault.TheVariants as raw_faults
 use Rattle.px_link.specs.Layout.{IsLayout}
 use Rattle.px_link.specs.Names.{IsNamed, IsOnly}
-use Rattle.px_link.specs.Overrides.{AreLinkedTypes}
+use Rattle.px_link.specs.Overrides.{AreLinkedTypes, in_order}
 
 -- THE ENTRY
 
@@ -50,21 +47,13 @@ pub record IsFound (v : View) (name : List ℕ) (method : ℕ) (sig : MethodSig)
   pub plain : sig.plain ≡ true
   pub has_body : cell v methods method 0 ≢ 0
 
-abbrev pub is_integer_layer : SigType-F SigType → Bool
-is_integer_layer (Int integer) = true
-is_integer_layer _ = false
-
-abbrev pub is_integer : SigType → Bool
-is_integer type = is_integer_layer (out-SigType type)
-
-abbrev pub is_argument_layer : SigType-F SigType → Bool
-is_argument_layer (Int integer) = true
-is_argument_layer (Array element) = is_integer element
-is_argument_layer _ = false
+abbrev pub is_integer : SigLeaf → Bool
+is_integer (Int integer) = true
+is_integer _ = false
 
 -- what a domain can be given for: an integer, or an array of integers
 abbrev pub is_argument : SigType → Bool
-is_argument type = is_argument_layer (out-SigType type)
+is_argument type = nat_le type.depth 1 && is_integer type.leaf
 
 -- the first parameter that can't be given, counted on from a number; sixteen can be
 abbrev pub unfit_from : ℕ → List SigType → Option ℕ
@@ -135,21 +124,11 @@ pub record Reads (v : View) (image : pe.View) (name : List ℕ) (program : Progr
   pub is_reached : IsReached v image lists (starts_of v method sig) reached
   pub keys : List Key
   pub numbers : Numbers v library_keys (met_by_all v reached.rows reached.bodies) keys
-  pub types : AreLinkedTypes v (record { keys = keys; rows = reached.rows }) lists reached.virtual_targets program.types
+  pub types : AreLinkedTypes v (record { keys = keys; rows = reached.rows }) lists (in_order reached.rows reached.virtual_targets) program.types
   pub methods : AreMethods v (record { keys = keys; rows = reached.rows }) reached.bodies program.methods
   pub entry_is : program.entry ≡ 0
   pub maker_is : program.maker ≡ maker_number reached.rows (maker_of v method sig)
   pub layout : IsLayout v (record { keys = keys; rows = reached.rows }) program.layout
-
--- THE ARGUMENTS
-
-abbrev pub arguments_in : Option Method → List Place
-arguments_in None = []
-arguments_in (Some method) = explicit_params method
-
--- what a run is given: the parameters of the entry but for its receiver
-abbrev pub arguments_of : Program → List Place
-arguments_of program = arguments_in (entry_of program)
 
 -- REFUSALS
 

@@ -1,9 +1,9 @@
 -- Which methods take the place of others in a type (Partition II, 10.3; Partition III, 4.2).
-use Rattle.std.specs.Prelude.{◌≡◌, ℕ, zero, ◌==◌, List, [], ◌∷◌, Option, Some, None, find, length, slice_get}
+use Rattle.std.specs.Prelude.{◌≡◌, ℕ, zero, ◌==◌, List, [], ◌∷◌, Option, Some, None, filter, find, length, slice_get}
 use Rattle.std.specs.List.{flat_map}
 use Rattle.px_meta.specs.Chains.{IsChain, base_in}
 use Rattle.px_meta.specs.Members.{owner_of}
-use Rattle.px_meta.specs.Rows.{methods}
+use Rattle.px_meta.specs.Rows.{is_in, methods}
 use Rattle.px_link_methods.specs.Codes.{Numbering, place_of}
 use Rattle.px_program.specs.declared.program.TypeInfo.{TypeInfo}
 use Rattle.px_link_reach.specs.Overriders.{overriders_in}
@@ -12,6 +12,10 @@ use Rattle.px_link_types.specs.Infos.{AreInfos}
 use Rattle.px_link_types.specs.declared.key.Key.{Key}
 use Rattle.px_link_types.specs.declared.key.Leaf.{Leaf}
 use Rattle.px_link_types.specs.declared.key.Leaf.TheVariants.{Defined}
+
+-- those methods that a `callvirt` names, in the order of their numbers
+abbrev pub in_order : List ℕ → List ℕ → List ℕ
+in_order rows targets = filter (is_in targets) rows
 
 -- the first by row of some methods in their order that a type has
 abbrev pub first_of : View → ℕ → List ℕ → Option ℕ

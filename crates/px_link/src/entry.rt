@@ -11,7 +11,7 @@ use crate::LinkFault;
 use crate::maker::maker_of;
 use crate::name::is_named;
 use px_meta::{METHODS, Meta, MetaMethod};
-use px_sig::SigType;
+use px_sig::{SigLeaf, SigType};
 
 // How many parameters can be given.
 const MOST: usize = 16;
@@ -48,21 +48,11 @@ fn method_at<'m, 'a>(meta: &'m Meta<'a>, row: u32) -> &'m MetaMethod<'a>
     &meta.methods()[row as usize - 1]
 }
 
-fn is_integer(item: &SigType) -> bool
-    ensures { result ≡ is_integer item.now }
-{
-    matches!(item, SigType::Int(_))
-}
-
 // Whether a domain can be given for a parameter of this type.
-fn is_argument(item: &SigType) -> bool
-    ensures { result ≡ is_argument item.now }
+fn is_argument(item: SigType) -> bool
+    ensures { result ≡ is_argument item }
 {
-    match item {
-        SigType::Int(_) => true,
-        SigType::Array(element) => is_integer(element.get()),
-        _ => false,
-    }
+    item.depth <= 1 && matches!(item.leaf, SigLeaf::Int(_))
 }
 
 // The number of the first parameter that can't be given.
@@ -70,7 +60,7 @@ fn first_unfit(params: &[SigType]) -> Option<u32>
     ensures { result ≡ first_unfit params.now }
 {
     for (at, param) in params.iter().enumerate() {
-        if at == MOST || !is_argument(param) {
+        if at == MOST || !is_argument(*param) {
             return Some(at as u32);
         }
     }
@@ -84,14 +74,15 @@ pub fn find_entry(meta: &Meta, name: &[u8]) -> Result<Entry, LinkFault>
 {
     let row = find_method(meta, name)?;
     let method = method_at(meta, row);
-    if method.rva == 0 || !method.sig.plain {
+    let sig = method.sig.get();
+    if method.rva == 0 || !sig.plain {
         return Err(LinkFault::NoBody);
     }
-    if let Some(number) = first_unfit(method.sig.params.as_slice()) {
+    if let Some(number) = first_unfit(sig.params.as_slice()) {
         return Err(LinkFault::BadParameter(number));
     }
     let maker = maker_of(meta, method);
-    if method.sig.has_this && maker.is_none() {
+    if sig.has_this && maker.is_none() {
         return Err(LinkFault::NoMaker);
     }
     Ok(Entry { method: row, maker })

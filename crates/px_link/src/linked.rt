@@ -1,19 +1,20 @@
 // The program of a method of an assembly.
-ghost use Rattle.std.specs.Prelude.{◌≡◌, ◌≤◌, ◌<◌, ◌^◌, ◌∷◌, ℕ, List, length, IfOk, IfErr};
+ghost use Rattle.std.specs.Prelude.{◌≡◌, ◌<◌, ◌^◌, ◌∷◌, ℕ, List, length, IfOk, IfErr};
 ghost use Rattle.std.specs.List.{AllByRecursion};
 ghost use Rattle.px_link_methods.specs.Methods.{met_by_all};
 ghost use Rattle.px_pe.specs.Image as pe;
+ghost use Rattle.px_program.specs.Arguments.{AreGiven, arguments_of};
 ghost use Rattle.px_program.specs.Formed.{IsWellFormed};
 ghost use Rattle.px_link_reach.specs.Met.{IsOwned, IsReached};
 ghost use Rattle.px_link_reach.specs.Overriders.{AreLists};
 ghost use Rattle.px_link_types.specs.Numbers.{Numbers, library_keys};
-ghost use Rattle.px_link.specs.Link.{Blames, Reads, arguments_of, maker_number, rows_of};
+ghost use Rattle.px_link.specs.Link.{Blames, Reads, maker_number, rows_of};
 ghost use Rattle.px_link.specs.Parts.{IsEntryOf, IsLinked, IsReachedFrom, fault_of};
 
 use crate::LinkFault;
 use crate::entry::{Entry, find_entry};
 use crate::layout::layout_of;
-use crate::overrides::types_of;
+use crate::overrides::{in_order, types_of};
 use px_code::BodyFault;
 use px_link_methods::{met_by_all, methods_of};
 use px_link_reach::{Overriding, ReachFault, Reached, Whole, reach};
@@ -102,8 +103,8 @@ fn program_with(
 {
     let rows = reached.rows.as_slice();
     let bodies = reached.bodies.as_slice();
-    let targets = reached.virtual_targets.as_slice();
-    let infos = types_of(alloc, tokens.meta(), overriding, types, rows, targets)?;
+    let targets = in_order(alloc, rows, reached.virtual_targets.as_slice())?;
+    let infos = types_of(alloc, tokens.meta(), overriding, types, rows, &targets)?;
     let methods = methods_of(alloc, tokens, types, rows, bodies)?;
     let layout = layout_of(alloc, tokens.meta(), types, rows)?;
     Ok(Program {
@@ -159,7 +160,7 @@ fn linked(alloc: Global, meta: &Meta, image: &Image, entry: &Entry) -> Result<Pr
 pub fn link(alloc: Global, meta: &Meta, image: &Image, name: &str) -> Result<Program, LinkFault>
     ensures reads { IfOk result (Reads meta.now image.now name.now) }
     ensures well_formed { IfOk result IsWellFormed }
-    ensures few { IfOk result (λ program. length (arguments_of program) ≤ 16) }
+    ensures arguments { IfOk result (λ program. AreGiven program.types (arguments_of program)) }
     ensures fault { IfErr result (Blames meta.now image.now name.now) }
 {
     let entry = find_entry(meta, name.as_bytes())?;

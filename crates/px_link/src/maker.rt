@@ -5,15 +5,16 @@ ghost use Rattle.px_meta.specs.Rows.{IsRow, methods, type_defs};
 ghost use Rattle.px_link.specs.Link.{maker_in, takes_nothing};
 ghost use Rattle.px_link.specs.Parts.{is_constructor, maker_for, makes};
 
+use px_link_tokens::is_void;
 use px_link_types::is_class;
 use px_meta::{METHODS, Meta, MetaMethod, TYPE_DEFS};
-use px_sig::{MethodSig, SigType};
+use px_sig::MethodSig;
 
 // A plain signature of an instance method that takes nothing and returns nothing.
 fn takes_nothing(sig: &MethodSig) -> bool
     ensures { result ≡ takes_nothing (Some sig.now) }
 {
-    sig.has_this && sig.plain && matches!(sig.ret, SigType::Void) && sig.params.is_empty()
+    sig.has_this && sig.plain && is_void(sig.ret) && sig.params.is_empty()
 }
 
 fn is_constructor(method: &MetaMethod) -> bool
@@ -26,7 +27,10 @@ fn is_constructor(method: &MetaMethod) -> bool
 fn makes(method: &MetaMethod, class: u32) -> bool
     ensures { result ≡ makes class method.now }
 {
-    method.owner == class && is_constructor(method) && method.rva != 0 && takes_nothing(&method.sig)
+    method.owner == class
+        && is_constructor(method)
+        && method.rva != 0
+        && takes_nothing(method.sig.get())
 }
 
 // Where the list of a type's methods begins.
@@ -73,7 +77,7 @@ pub fn maker_of(meta: &Meta, method: &MetaMethod) -> Option<u32>
     requires { IsRow meta.now type_defs method.now.owner }
     ensures { result ≡ maker_for meta.now method.now }
 {
-    if method.sig.has_this {
+    if method.sig.get().has_this {
         maker_in(meta, method.owner)
     } else {
         None

@@ -7,7 +7,7 @@ ghost use Rattle.px_meta.specs.Rows.{IsRow, methods, type_defs};
 ghost use Rattle.px_link_methods.specs.Codes.{place_of};
 ghost use Rattle.px_tables.specs.Metadata.{IsSound};
 ghost use Rattle.px_link_types.specs.Keys.{IsKey};
-ghost use Rattle.px_link.specs.Overrides.{AreOverrides, first_of, nearest};
+ghost use Rattle.px_link.specs.Overrides.{AreOverrides, first_of, in_order, nearest};
 ghost use Rattle.px_link.specs.Parts.{HasTypes, IsLine, pairs_by};
 
 use indexmap::IndexSet;
@@ -33,6 +33,28 @@ fn sound_tables<'m, 'a>(meta: &'m Meta<'a>) -> &'m Tables<'a>
     // a call that says of the tables what is so of all that are read
     let _ = tables.rows(TYPE_DEFS);
     tables
+}
+
+// Those rows that a set has, in their order.
+fn rows_in(alloc: Global, rows: &[u32], set: &IndexSet<u32>) -> Result<Vec<u32>, AllocError>
+    ensures { IfOk result (λ kept. kept.items ≡ in_order rows.now set.now.keys) }
+{
+    let mut kept = Vec::new(alloc);
+    for row in rows {
+        if set.contains(row) {
+            kept.push(*row)?;
+        }
+    }
+    Ok(kept)
+}
+
+/// Those methods that a `callvirt` names, in the order of their numbers.
+pub fn in_order(alloc: Global, rows: &[u32], targets: &[u32]) -> Result<Vec<u32>, AllocError>
+    requires { IsDistinct (λ row other. row == other) targets.now }
+    ensures { IfOk result (λ kept. kept.items ≡ in_order rows.now targets.now) }
+{
+    let set = set_of(alloc, targets)?;
+    rows_in(alloc, rows, &set)
 }
 
 // A type and those behind it in its chain of bases.

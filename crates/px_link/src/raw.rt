@@ -3,6 +3,7 @@ ghost use Rattle.std.specs.Prelude.{◌≡◌, ◌≢◌, ◌≤◌, ◌<◌, �
 ghost use Rattle.std.specs.List.{AllByRecursion};
 ghost use Rattle.px_code.specs.Body.{IsFormed};
 ghost use Rattle.px_program.specs.Alone.{alone, types_with};
+ghost use Rattle.px_program.specs.Arguments.{AreGiven, arguments_of};
 ghost use Rattle.px_program.specs.Formed.{FitsPlace, IsInteger, IsWellFormed};
 ghost use Rattle.px_link.specs.Link.{BlamesRaw};
 ghost use Rattle.px_link.specs.Raw.{instr_of, method_of, program_of};
@@ -14,6 +15,7 @@ use px_code::{Body, RawClause, RawInstr};
 use px_link_methods::clause_of;
 use px_link_opcodes::code_of;
 use px_program::{Clause, Instr, Method, Place, Program, alone};
+use px_shared::SharedList;
 use sqlite_items::Items;
 use std::alloc::{AllocError, Global};
 
@@ -56,12 +58,12 @@ fn method_of(
         name: Items::from_slice(alloc, name)?,
         owner: 0,
         is_static: true,
-        params: Items::from_slice(alloc, params)?,
+        params: SharedList::from_slice(alloc, params)?,
         ret: Some(Place::I4),
-        locals: Items::new(alloc),
+        locals: SharedList::from_vec(Vec::new(alloc))?,
         max_stack: body.max_stack,
-        code: Items::from_vec(instrs_of(alloc, body.code.as_slice())?),
-        clauses: Items::from_vec(clauses_of(alloc, body.clauses.as_slice())?),
+        code: SharedList::from_vec(instrs_of(alloc, body.code.as_slice())?)?,
+        clauses: SharedList::from_vec(clauses_of(alloc, body.clauses.as_slice())?)?,
     })
 }
 
@@ -99,6 +101,7 @@ pub fn link_raw(
     requires integers { AllByRecursion IsInteger params.now }
     ensures program { IfOk result (λ p. p ≡ program_of body.now params.now elements.now) }
     ensures well_formed { IfOk result IsWellFormed }
+    ensures arguments { IfOk result (λ program. AreGiven program.types (arguments_of program)) }
     ensures no_locals { IfOk result (λ _. body.now.locals_token ≡ 0) }
     ensures fault { IfErr result (BlamesRaw body.now) }
 {

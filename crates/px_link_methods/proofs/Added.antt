@@ -49,7 +49,7 @@ added_method w v e row m whole keys owned spelled news (Ok done) is owner sig bo
 added_method w v e row m whole keys owned spelled news (Err fault) is owner sig body = tt
 
 -- one more item is mapped
-pub added_mapped : {X : Type 0} (v : View) (f : X → Key) (xs : List X) (i : ℕ) (x : X) (keys mid news : List Key) (key : Key) → IsAdded v keys (map f (take i xs)) mid → i < length xs → x ≡ get_or xs i x → key ≡ f x → IsKey v key → news ≡ mid ++ key ∷ []
+pub added_mapped : {X : Type 0} (v : View) (f : X → Key) (xs : List X) (i : ℕ) (d : X) (keys mid news : List Key) (key : Key) → IsAdded v keys (map f (take i xs)) mid → i < length xs → key ≡ f (get_or xs i d) → IsKey v key → news ≡ mid ++ key ∷ []
     → IsAdded v keys (map f (take (i + 1) xs)) news
-added_mapped v f xs i x keys mid news key a less is made there e =
-    added_as v keys _ _ news (ap (λ z. map f (take i xs) ++ z ∷ []) (made ∙ ap f is) ∙ sym (map_more f xs i x less)) (added_then v keys (map f (take i xs)) mid (key ∷ []) news a (record { is = e; there = (there, tt) }))
+added_mapped v f xs i d keys mid news key a less made there e =
+    added_as v keys _ _ news (ap (λ z. map f (take i xs) ++ z ∷ []) made ∙ sym (map_more f xs i d less)) (added_then v keys (map f (take i xs)) mid (key ∷ []) news a (record { is = e; there = (there, tt) }))

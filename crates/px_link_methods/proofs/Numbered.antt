@@ -14,7 +14,7 @@ use Rattle.px_link_types.specs.Numbers.{is_numbered, number_of}
 use Rattle.px_link_types.specs.declared.key.Key.{Key}
 use Rattle.px_link_types.specs.declared.key.Leaf.TheVariants.{Defined}
 use Rattle.px_link_methods.specs.Codes.{IsInstr, Numbering}
-use Rattle.px_link_methods.specs.Methods.{IsMethod as MadeMethod, IsMethodName, keys_of_body, keys_of_clause, keys_of_instr, keys_of_sig, linked_clause, met_by, place_of_type, receiver, return_place, sig_at}
+use Rattle.px_link_methods.specs.Methods.{IsMethod as MadeMethod, IsMethodName, keys_of_body, keys_of_clause, keys_of_instr, keys_of_sig, linked_clause, met_by, place_of_type, return_place, sig_at}
 use Rattle.px_link_methods.specs.Slots.{forms_of}
 
 -- all that a method meets has numbers
@@ -46,7 +46,7 @@ has_numbers v keys row m whole is numbered =
 
 -- a method whose parts are made by what the metadata say of it
 pub made : (w v : View) → w ≡ v → (n : Numbering) (row : ℕ) (m : MetaMethod) (whole : Whole) (method : Method) → IsMethod w row m → IsMethodName w row method.name → method.owner ≡ number_of n.keys (alone (Defined m.owner))
-    → method.is_static ≡ not m.sig.has_this → method.params ≡ receiver w n.keys m.owner m.sig.has_this ++ map (place_of_type w n.keys) m.sig.params → method.ret ≡ return_place w n.keys m.sig.ret
+    → method.is_static ≡ not m.sig.has_this → method.params ≡ map (place_of_type w n.keys) m.sig.params → method.ret ≡ return_place w n.keys m.sig.ret
     → method.locals ≡ map (place_of_type w n.keys) whole.locals → method.max_stack ≡ whole.body.max_stack → AllZip (IsInstr v n (forms_of w m.sig whole.locals)) whole.body.code method.code
     → method.clauses ≡ map (linked_clause w n.keys) whole.body.clauses → MadeMethod v n row whole method
 made w v e n row m whole method is name owner static params ret locals stack code clauses =
@@ -57,7 +57,7 @@ made w v e n row m whole method is name owner static params ret locals stack cod
       name = name;
       owner = owner ∙ ap (λ o. number_of n.keys (alone (Defined o))) is.owner;
       is_static = static;
-      params = params ∙ ap (λ o. receiver w n.keys o m.sig.has_this ++ map (place_of_type w n.keys) m.sig.params) is.owner;
+      params = params;
       ret = ret;
       locals = locals;
       max_stack = stack;

@@ -21,9 +21,6 @@ each_mapped P f [] i d each less = absurd (omega arith)
 each_mapped P f (x ∷ xs) zero d each less = each.0
 each_mapped P f (x ∷ xs) (suc i) d each less = each_mapped P f xs i d each.1 (omega arith)
 
-pub mapped_of : {X Y : Type 0} (P : Y → Type 0) (f : X → Y) (xs : List X) (i : ℕ) (x : X) → AllByRecursion P (map f xs) → i < length xs → x ≡ get_or xs i x → P (f x)
-mapped_of P f xs i x each less is = subst (λ y. P (f y)) (sym is) (each_mapped P f xs i x each less)
-
 pub each_item : {X : Type 0} (P : X → Type 0) (xs : List X) (i : ℕ) (d : X) → AllByRecursion P xs → i < length xs → P (get_or xs i d)
 each_item P [] i d each less = absurd (omega arith)
 each_item P (x ∷ xs) zero d each less = each.0
@@ -37,8 +34,8 @@ zipped_more R xs i x ys news y are less is holds e =
     (subst (λ z. AllZip R (take i xs ++ z ∷ []) (ys ++ y ∷ [])) is (all_zipped_more R (take i xs) ys x y are holds)))
 
 -- one more item is mapped
-pub mapped_more : {X Y : Type 0} (f : X → Y) (xs : List X) (i : ℕ) (x : X) (ys news : List Y) (y : Y) → ys ≡ map f (take i xs) → i < length xs → x ≡ get_or xs i x → y ≡ f x → news ≡ ys ++ y ∷ [] → news ≡ map f (take (i + 1) xs)
-mapped_more f xs i x ys news y are less is made e = e ∙ ap (λ l. l ++ y ∷ []) are ∙ ap (λ z. map f (take i xs) ++ z ∷ []) (made ∙ ap f is) ∙ sym (map_more f xs i x less)
+pub mapped_more : {X Y : Type 0} (f : X → Y) (xs : List X) (i : ℕ) (d : X) (ys news : List Y) (y : Y) → ys ≡ map f (take i xs) → i < length xs → y ≡ f (get_or xs i d) → news ≡ ys ++ y ∷ [] → news ≡ map f (take (i + 1) xs)
+mapped_more f xs i d ys news y are less made e = e ∙ ap (λ l. l ++ y ∷ []) are ∙ ap (λ z. map f (take i xs) ++ z ∷ []) made ∙ sym (map_more f xs i d less)
 
 -- PAIRS
 

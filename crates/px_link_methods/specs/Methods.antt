@@ -1,5 +1,5 @@
 -- The methods of a program, from those of an assembly and their bodies (Partition II, 22.26, 23.2 and 25.4).
-use Rattle.std.specs.Prelude.{◌≡◌, ℕ, ◌==◌, not, Bool, true, false, if◌then◌else◌, List, [], ◌∷◌, ◌++◌, codes, map, Option, Some, None}
+use Rattle.std.specs.Prelude.{◌≡◌, ℕ, ◌==◌, not, if◌then◌else◌, List, [], ◌∷◌, ◌++◌, codes, map, Option, Some, None}
 use Rattle.std.specs.List.{AllZip, flat_map, zip}
 use Rattle.px_code.specs.declared.body.RawClause.{RawClause}
 use Rattle.px_code.specs.declared.body.RawInstr.{RawInstr}
@@ -14,7 +14,6 @@ use Rattle.px_program.specs.declared.program.ClauseKind.{ClauseKind}
 use Rattle.px_program.specs.declared.program.ClauseKind.TheVariants as kinds
 use Rattle.px_program.specs.declared.program.Method.{Method}
 use Rattle.px_program.specs.declared.program.Place.{Place}
-use Rattle.px_program.specs.declared.program.Place.TheVariants as places
 use Rattle.px_link_reach.specs.Met.{operand_at}
 use Rattle.px_link_reach.specs.declared.body.Whole.{Whole}
 use Rattle.px_sig.specs.declared.sig.MethodSig.{MethodSig}
@@ -86,11 +85,6 @@ met_by_all v rows bodies = flat_map (met_by v) (zip rows bodies)
 abbrev pub place_of_type : View → List Key → SigType → Place
 place_of_type v keys type = place_in keys (place_key v type)
 
--- the receiver is an object of the owner
-abbrev pub receiver : View → List Key → ℕ → Bool → List Place
-receiver v keys owner false = []
-receiver v keys owner true = places.Ref (owner_number v keys owner) ∷ []
-
 abbrev pub return_place : View → List Key → SigType → Option Place
 return_place v keys type = if is_void type then None else Some (place_of_type v keys type)
 
@@ -100,14 +94,14 @@ pub record IsMethodName (v : View) (method : ℕ) (name : List ℕ) : Type 0 whe
   pub type_is : IsTypeName v (owner_of v methods method) type
   pub is : name ≡ type ++ codes "::" ++ text_at v (cell v methods method 3)
 
--- a method of a program, from its row and its body
+-- a method of a program, from its row and its body; its receiver isn't among its parameters
 pub record IsMethod (v : View) (n : Numbering) (row : ℕ) (whole : Whole) (method : Method) : Type 0 where
   pub sig : MethodSig
   pub has_sig : sig_at v row ≡ Some sig
   pub name : IsMethodName v row method.name
   pub owner : method.owner ≡ owner_number v n.keys (owner_of v methods row)
   pub is_static : method.is_static ≡ not sig.has_this
-  pub params : method.params ≡ receiver v n.keys (owner_of v methods row) sig.has_this ++ map (place_of_type v n.keys) sig.params
+  pub params : method.params ≡ map (place_of_type v n.keys) sig.params
   pub ret : method.ret ≡ return_place v n.keys sig.ret
   pub locals : method.locals ≡ map (place_of_type v n.keys) whole.locals
   pub max_stack : method.max_stack ≡ whole.body.max_stack

@@ -10,7 +10,7 @@ use px_code::RawClause;
 use px_link_types::{Key, Leaf, Types, class_of};
 use px_meta::Meta;
 use px_program::{Clause, ClauseKind};
-use sqlite_items::Items;
+use px_shared::SharedList;
 use std::alloc::{AllocError, Global};
 
 // The kind of a clause by its flags.
@@ -66,13 +66,13 @@ pub fn clauses_of(
     meta: &Meta,
     types: &Types,
     raws: &[RawClause],
-) -> Result<Items<Clause>, AllocError>
+) -> Result<SharedList<Clause>, AllocError>
     requires { AreNumberedIn types.now.keys (flat_map (keys_of_clause meta.now) raws.now) }
     ensures { IfOk result (λ clauses. clauses ≡ map (linked_clause meta.now types.now.keys) raws.now) }
 {
-    let mut clauses = Items::new(alloc);
+    let mut clauses = Vec::new(alloc);
     for raw in raws {
         clauses.push(clause_of(class_number(meta, types, raw), raw))?;
     }
-    Ok(clauses)
+    SharedList::from_vec(clauses)
 }

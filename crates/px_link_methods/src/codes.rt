@@ -24,7 +24,7 @@ use px_link_tokens::{Operand, Tokens};
 use px_link_types::{Key, Types};
 use px_meta::Meta;
 use px_program::{Callee, Code, ElementForm, Instr, Move};
-use sqlite_items::Items;
+use px_shared::SharedList;
 use std::alloc::{AllocError, Global};
 
 // The number of a method among those that have numbers.
@@ -185,13 +185,13 @@ pub fn instrs_of(
     rows: &IndexSet<u32>,
     forms: &SlotForms,
     raws: &[RawInstr],
-) -> Result<Items<Instr>, AllocError>
+) -> Result<SharedList<Instr>, AllocError>
     requires few { length rows.now.keys < 2 ^ 32 }
     requires types { AreNumberedIn types.now.keys (flat_map (keys_of_instr tokens.now) raws.now) }
     requires methods { AreAmong rows.now.keys (flat_map (target_of tokens.now) raws.now) }
     ensures { IfOk result (AllZip (IsInstr tokens.now (record { keys = types.now.keys; rows = rows.now.keys }) forms.now) raws.now) }
 {
-    let mut instrs = Items::new(alloc);
+    let mut instrs = Vec::new(alloc);
     for raw in raws {
         instrs.push(Instr {
             offset: raw.offset,
@@ -199,5 +199,5 @@ pub fn instrs_of(
             code: code_of(alloc, tokens, types, rows, forms, raw)?,
         })?;
     }
-    Ok(instrs)
+    SharedList::from_vec(instrs)
 }

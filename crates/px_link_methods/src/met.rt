@@ -33,7 +33,7 @@ fn push_places(meta: &Meta, keys: &mut Vec<Key>, items: &[SigType]) -> Result<()
     ensures { OnOk result (IsAdded meta.now keys.old.items (map (place_key meta.now) items.now) keys.new.items) }
 {
     for item in items {
-        keys.push(place_key(meta, item))?;
+        keys.push(place_key(meta, *item))?;
     }
     Ok(())
 }
@@ -114,7 +114,7 @@ fn push_sig(meta: &Meta, keys: &mut Vec<Key>, sig: &MethodSig) -> Result<(), All
     ensures { OnOk result (IsAdded meta.now keys.old.items (keys_of_sig meta.now (Some sig.now)) keys.new.items) }
 {
     push_places(meta, keys, sig.params.as_slice())?;
-    keys.push(place_key(meta, &sig.ret))?;
+    keys.push(place_key(meta, sig.ret))?;
     Ok(())
 }
 
@@ -131,7 +131,7 @@ fn push_method(
     let meta = tokens.meta();
     let method = method_at(meta, row);
     push_class(meta, keys, Leaf::Defined(method.owner))?;
-    push_sig(meta, keys, &method.sig)?;
+    push_sig(meta, keys, method.sig.get())?;
     push_body(tokens, keys, whole)
 }
 

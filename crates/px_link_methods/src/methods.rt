@@ -1,13 +1,12 @@
 // Methods, by the numbers of types and methods.
-ghost use Rattle.std.specs.Prelude.{◌≡◌, ◌∷◌, ◌++◌, ◌<◌, ◌^◌, ◌==◌, Bool, Some, true, length, map, IfOk};
+ghost use Rattle.std.specs.Prelude.{◌≡◌, ◌<◌, ◌^◌, ◌==◌, true, length, IfOk};
 ghost use Rattle.std.specs.List.{AllByRecursion, IsDistinct, flat_map};
 ghost use Rattle.px_meta.specs.Rows.{is_in};
 ghost use Rattle.px_link_reach.specs.Met.{IsOwned, target_of};
-ghost use Rattle.px_link_types.specs.Keys.{alone, place_key};
+ghost use Rattle.px_link_types.specs.Keys.{place_key};
 ghost use Rattle.px_link_types.specs.Making.{AreNumberedIn};
 ghost use Rattle.px_link_types.specs.Numbers.{is_numbered};
-ghost use Rattle.px_link_types.specs.declared.key.Leaf.TheVariants.{Defined};
-ghost use Rattle.px_link_methods.specs.Methods.{AreMethods, IsMethod, met_by, met_by_all, place_of_type, receiver, return_place};
+ghost use Rattle.px_link_methods.specs.Methods.{AreMethods, IsMethod, met_by, met_by_all, return_place};
 ghost use Rattle.px_link_methods.specs.Parts.{AreAmong};
 
 use crate::clauses::clauses_of;
@@ -21,34 +20,13 @@ use px_link_tokens::{Tokens, is_void};
 use px_link_types::{Types, place_key};
 use px_meta::Meta;
 use px_program::{Method, Place};
-use px_sig::{MethodSig, SigType};
-use sqlite_items::Items;
+use px_sig::SigType;
 use std::alloc::{AllocError, Global};
 
-// The places of a method's parameters, of which the receiver is the first.
-fn params_of(
-    alloc: Global,
-    meta: &Meta,
-    types: &Types,
-    owner: u32,
-    sig: &MethodSig,
-) -> Result<Items<Place>, AllocError>
-    requires owner { is_numbered types.now.keys (alone (Defined owner)) ≡ true }
-    requires params { AreNumberedIn types.now.keys (map (place_key meta.now) sig.now.params) }
-    ensures { IfOk result (λ params. params ≡ receiver meta.now types.now.keys owner sig.now.has_this ++ map (place_of_type meta.now types.now.keys) sig.now.params) }
-{
-    let mut params = Items::new(alloc);
-    if sig.has_this {
-        params.push(Place::Ref(number_of_row(types, owner)))?;
-    }
-    params.append(places_of(alloc, meta, types, sig.params.as_slice())?)?;
-    Ok(params)
-}
-
 // What a method returns.
-fn return_place(meta: &Meta, types: &Types, item: &SigType) -> Option<Place>
-    requires { is_numbered types.now.keys (place_key meta.now item.now) ≡ true }
-    ensures { result ≡ return_place meta.now types.now.keys item.now }
+fn return_place(meta: &Meta, types: &Types, item: SigType) -> Option<Place>
+    requires { is_numbered types.now.keys (place_key meta.now item) ≡ true }
+    ensures { result ≡ return_place meta.now types.now.keys item }
 {
     if is_void(item) {
         None
@@ -74,15 +52,15 @@ fn method_of(
 {
     let meta = tokens.meta();
     let method = method_at(meta, row);
-    let sig = &method.sig;
+    let sig = method.sig.get();
     let locals = whole.locals.as_slice();
     let forms = SlotForms::new(alloc, meta, sig, locals)?;
     Ok(Method {
         name: method_name(alloc, meta, row)?,
         owner: number_of_row(types, method.owner),
         is_static: !sig.has_this,
-        params: params_of(alloc, meta, types, method.owner, sig)?,
-        ret: return_place(meta, types, &sig.ret),
+        params: places_of(alloc, meta, types, sig.params.as_slice())?,
+        ret: return_place(meta, types, sig.ret),
         locals: places_of(alloc, meta, types, locals)?,
         max_stack: whole.body.max_stack,
         code: instrs_of(

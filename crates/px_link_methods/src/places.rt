@@ -8,6 +8,7 @@ ghost use Rattle.px_link_methods.specs.Methods.{place_of_type};
 use px_link_types::{Key, Leaf, Types, place_key};
 use px_meta::Meta;
 use px_program::Place;
+use px_shared::SharedList;
 use px_sig::SigType;
 use sqlite_items::Items;
 use std::alloc::{AllocError, Global};
@@ -55,13 +56,13 @@ pub fn places_of(
     meta: &Meta,
     types: &Types,
     items: &[SigType],
-) -> Result<Items<Place>, AllocError>
+) -> Result<SharedList<Place>, AllocError>
     requires { AreNumberedIn types.now.keys (map (place_key meta.now) items.now) }
     ensures { IfOk result (λ places. places ≡ map (place_of_type meta.now types.now.keys) items.now) }
 {
-    let mut places = Items::new(alloc);
+    let mut places = Vec::new(alloc);
     for item in items {
-        places.push(types.place(place_key(meta, item)))?;
+        places.push(types.place(place_key(meta, *item)))?;
     }
-    Ok(places)
+    SharedList::from_vec(places)
 }

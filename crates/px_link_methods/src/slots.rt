@@ -26,8 +26,8 @@ impl Model for SlotForms {
     ghost view = { λ f. record { args = f.args.items; locals = f.locals.items; ret = f.ret } };
 }
 
-fn is_other(meta: &Meta, item: &SigType) -> bool
-    ensures { result ≡ is_other meta.now item.now }
+fn is_other(meta: &Meta, item: SigType) -> bool
+    ensures { result ≡ is_other meta.now item }
 {
     key_of(meta, item).is_none()
 }
@@ -37,7 +37,7 @@ fn push_forms(forms: &mut Vec<bool>, meta: &Meta, items: &[SigType]) -> Result<(
     ensures { OnOk result (forms.new.items ≡ forms.old.items ++ map (is_other meta.now) items.now) }
 {
     for item in items {
-        forms.push(is_other(meta, item))?;
+        forms.push(is_other(meta, *item))?;
     }
     Ok(())
 }
@@ -69,7 +69,7 @@ impl SlotForms {
         push_forms(&mut args, meta, sig.params.as_slice())?;
         let mut others = Vec::new(alloc);
         push_forms(&mut others, meta, locals)?;
-        let ret = is_other(meta, &sig.ret) && !is_void(&sig.ret);
+        let ret = is_other(meta, sig.ret) && !is_void(sig.ret);
         Ok(SlotForms {
             args,
             locals: others,

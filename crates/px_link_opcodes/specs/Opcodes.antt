@@ -43,11 +43,11 @@ slot_move opcode operand =
 unfoldable pub stack_move : ℕ → ℕ → Option Move
 stack_move opcode operand =
     if opcode == 0x14 then Some move.Null
-    else if opcode == 0x15 then Some (move.Constant false (2 ^ 32 - 1))
-    else if is_from_to 0x16 0x1E opcode then Some (move.Constant false (opcode - 0x16))
-    else if opcode == 0x1F then Some (move.Constant false (signed_byte (operand % 2 ^ 8)))
-    else if opcode == 0x20 then Some (move.Constant false (operand % 2 ^ 32))
-    else if opcode == 0x21 then Some (move.Constant true operand)
+    else if opcode == 0x15 then Some (move.Constant32 (2 ^ 32 - 1))
+    else if is_from_to 0x16 0x1E opcode then Some (move.Constant32 (opcode - 0x16))
+    else if opcode == 0x1F then Some (move.Constant32 (signed_byte (operand % 2 ^ 8)))
+    else if opcode == 0x20 then Some (move.Constant32 (operand % 2 ^ 32))
+    else if opcode == 0x21 then Some (move.Constant64 operand)
     else if opcode == 0x25 then Some move.Duplicate
     else if opcode == 0x26 then Some move.Pop
     else None

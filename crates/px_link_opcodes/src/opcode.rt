@@ -12,35 +12,11 @@ use px_program::{Code, Move};
 use std::alloc::{AllocError, Global};
 
 // A byte with its sign, as a pattern of 32 bits.
-fn signed_byte(byte: u64) -> u64
+fn signed_byte(byte: u32) -> u32
     requires { byte < 256 }
     ensures { result ≡ spec.signed_byte byte }
 {
-    if byte < 128 {
-        byte
-    } else {
-        byte + ((1 << 32) - 256)
-    }
-}
-
-// An int32 on the stack.
-fn constant(pattern: u64) -> Move
-    ensures { result ≡ Move.Constant false pattern }
-{
-    Move::Constant {
-        wide: false,
-        pattern,
-    }
-}
-
-// An int64 on the stack.
-fn wide_constant(pattern: u64) -> Move
-    ensures { result ≡ Move.Constant true pattern }
-{
-    Move::Constant {
-        wide: true,
-        pattern,
-    }
+    if byte < 128 { byte } else { byte + 0xFFFF_FF00 }
 }
 
 // A move from or to a slot, whose number stands in the opcode, in one byte or in two.
@@ -73,11 +49,11 @@ fn stack_move(opcode: u16, operand: u64) -> Option<Move>
 {
     Some(match opcode {
         0x14 => Move::Null,
-        0x15 => constant(0xFFFF_FFFF),
-        0x16..=0x1E => constant(u64::from(opcode) - 0x16),
-        0x1F => constant(signed_byte(operand % (1 << 8))),
-        0x20 => constant(operand % (1 << 32)),
-        0x21 => wide_constant(operand),
+        0x15 => Move::Constant32(0xFFFF_FFFF),
+        0x16..=0x1E => Move::Constant32(u32::from(opcode) - 0x16),
+        0x1F => Move::Constant32(signed_byte((operand % (1 << 8)) as u32)),
+        0x20 => Move::Constant32((operand % (1 << 32)) as u32),
+        0x21 => Move::Constant64(operand),
         0x25 => Move::Duplicate,
         0x26 => Move::Pop,
         _ => return None,

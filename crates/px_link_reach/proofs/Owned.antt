@@ -59,7 +59,7 @@ owned_row : (v : View) (call : Bool) (way : Way) (row : ℕ) → call ≡ true �
 owned_row v call way row calls = by (nat_le 1 row && nat_le row (count_of v methods)) refl
   where
     by : (is : Bool) → (nat_le 1 row && nat_le row (count_of v methods)) ≡ is → IsOwnedIn v call (method_in v way (if is then Some row else None))
-    by true e = owned_by v call way row _ (record { some = leb-true 1 row (and_parts _ _ e).0; few = leb-true row (count_of v methods) (and_parts _ _ e).1 }) calls
+    by true e = owned_by v call way row (method_sig_at v (cell v methods row 4)) (record { some = leb-true 1 row (and_parts _ _ e).0; few = leb-true row (count_of v methods) (and_parts _ _ e).1 }) calls
     by false e = nothing v call
 
 no_text : (v : View) (call : Bool) (bytes : Option (List ℕ)) → IsOwnedIn v call (text_of bytes)

@@ -5,4 +5,3 @@ pub mod Members
 pub mod Named
 pub mod Nesting
 pub mod Reading
-pub mod Spelled

@@ -9,6 +9,7 @@ use Rattle.px_meta.specs.Tokens.{AreRows, row_in, table_in}
 use Rattle.px_meta.specs.declared.meta.MetaField.{MetaField}
 use Rattle.px_meta.specs.declared.meta.MetaMethod.{MetaMethod}
 use Rattle.px_meta.proofs.Alike.{item_of, owner_row}
+use Rattle.px_link_types.proofs.Listed as listed
 use Rattle.px_link_types.specs.Keys.{key_of}
 use Rattle.px_link_types.specs.Numbers.{is_static_field}
 use Rattle.px_link_types.specs.Parts.{is_kind}
@@ -22,6 +23,11 @@ use Rattle.px_link_tokens.specs.Read.{fits_call, is_run_field, takes_call}
 pub item_at : {X : Type 0} (Is : View → ℕ → X → Type 0) (v meta tables : View) (table row : ℕ) (items : List X) (x : X) → tables ≡ meta → meta ≡ v → IsRow tables table row → AreRows Is meta table items → x ≡ get_or items (row - 1) x → Is v row x
 item_at Is v meta tables table row items x one other is are e =
     subst (λ t. Is t row x) other (item_of Is meta table row items x are (subst (λ t. IsRow t table row) one is) e)
+
+-- the same where it is read with something for what isn't there
+pub read_at : {X : Type 0} (Is : View → ℕ → X → Type 0) (v meta tables : View) (table row : ℕ) (items : List X) (d : X) → tables ≡ meta → meta ≡ v → IsRow tables table row → AreRows Is meta table items → Is v row (get_or items (row - 1) d)
+read_at Is v meta tables table row items d one other is are =
+    subst (λ t. Is t row (get_or items (row - 1) d)) other (listed.item_at Is meta table row items d are (subst (λ t. IsRow t table row) one is))
 
 pub field_owner : (v : View) (row : ℕ) (field : MetaField) → IsField v row field → field.owner ≢ 0 → IsRow v type_defs field.owner
 field_owner v row field is some = owner_row v fields row field.owner (sym is.owner) some

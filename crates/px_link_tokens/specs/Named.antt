@@ -9,12 +9,9 @@ use Rattle.px_sig.specs.declared.sig.Integer.{Integer}
 use Rattle.px_sig.specs.declared.sig.Integer.TheVariants as integers
 use Rattle.px_sig.specs.declared.sig.MethodSig.{MethodSig}
 use Rattle.px_sig.specs.declared.sig.SigType.{SigType}
-use Rattle.px_sig.specs.declared.sig.SigType.TheVariants as types
 use Rattle.px_tables.specs.Metadata.{View}
-use Rattle.px_link_types.specs.Keys.{class_of, key_of}
+use Rattle.px_link_types.specs.Keys.{key_of}
 use Rattle.px_link_types.specs.declared.key.Key.{Key}
-use Rattle.px_link_types.specs.declared.key.Leaf.{Leaf}
-use Rattle.px_link_types.specs.declared.key.Leaf.TheVariants.{Number, Library}
 use Rattle.px_link_tokens.specs.Operands as operands
 use Rattle.px_link_tokens.specs.Operands.{Way, is_there, library_by, method_in, spec_in}
 use Rattle.px_link_tokens.specs.declared.methods.Way.{Way as Manner}
@@ -50,14 +47,6 @@ way_of manners.Made = operands.Made
 
 abbrev pub are_forms : View → List SigType → Bool
 are_forms v types = list_all (λ type. is_there (key_of v type)) types
-
--- what lies at the bottom of a type that is no array, where its class is known
-abbrev pub known_leaf : View → SigType → Option Leaf
-known_leaf v (types.Int integer) = Some (Number integer)
-known_leaf v types.Str = Some (Library 17)
-known_leaf v types.Object = Some (Library 0)
-known_leaf v (types.Class at) = class_of v at
-known_leaf v _ = None
 
 -- the names of integers
 unfoldable pub integer_names : List (List ℕ × Integer)

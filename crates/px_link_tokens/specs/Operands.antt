@@ -12,11 +12,10 @@ use Rattle.px_sig.specs.declared.sig.Integer.{Integer}
 use Rattle.px_sig.specs.declared.sig.Integer.TheVariants as integers
 use Rattle.px_sig.specs.declared.sig.MethodSig.{MethodSig}
 use Rattle.px_sig.specs.declared.sig.SigType.{SigType}
-use Rattle.px_sig.specs.declared.sig.SigType.TheFolds.{fold-SigType}
-use Rattle.px_sig.specs.declared.sig.SigType.TheOpen.{SigType-F, Void, Int, Class}
-use Rattle.px_sig.specs.declared.sig.SigType.TheViews.{out-SigType}
+use Rattle.px_sig.specs.declared.sig.SigLeaf.{SigLeaf}
+use Rattle.px_sig.specs.declared.sig.SigLeaf.TheVariants.{Void, Int, Class}
 use Rattle.px_tables.specs.Metadata.{View}
-use Rattle.px_link_types.specs.Keys.{alone, array_in, class_of, is_class, is_system, key_by, key_of, library_ref, ref_name}
+use Rattle.px_link_types.specs.Keys.{alone, array_in, class_of, in_arrays, is_class, is_system, key_of, leaf_of, library_ref, ref_name}
 use Rattle.px_link_types.specs.Numbers.{is_integer, is_static_field}
 use Rattle.px_link_types.specs.Parts.{is_kind}
 use Rattle.px_link_types.specs.declared.key.Key.{Key}
@@ -51,13 +50,14 @@ abbrev pub key_alone : Option Leaf → Option Key
 key_alone None = None
 key_alone (Some leaf) = Some (alone leaf)
 
--- what a type is, where all classes in it are known: one that isn't known doesn't read as `Object` here
-abbrev pub known_by : View → SigType-F (Option Key) → Option Key
-known_by v (Class at) = key_alone (class_of v at)
-known_by v type = key_by v type
+-- what is in the arrays of a type, where its class is known
+abbrev pub known_leaf : View → SigLeaf → Option Leaf
+known_leaf v (Class at) = class_of v at
+known_leaf v leaf = leaf_of v leaf
 
+-- what a type is, where its class is known: one that isn't known doesn't read as `Object` here
 abbrev pub known_key : View → SigType → Option Key
-known_key v = fold-SigType (Option Key) (known_by v)
+known_key v type = in_arrays type.depth (known_leaf v type.leaf)
 
 abbrev pub read_known : View → Option SigType → Option Key
 read_known v None = None
@@ -151,12 +151,12 @@ field_in v static (Some row) = if is_field v static row then Some (operand.Field
 abbrev pub field_at : View → Bool → ℕ → Option Operand
 field_at v static at = if table_in at == fields then field_in v static (some_row v fields (row_in at)) else None
 
-abbrev pub is_void_layer : SigType-F SigType → Bool
-is_void_layer Void = true
-is_void_layer _ = false
+abbrev pub is_void_leaf : SigLeaf → Bool
+is_void_leaf Void = true
+is_void_leaf _ = false
 
 abbrev pub is_void : SigType → Bool
-is_void type = is_void_layer (out-SigType type)
+is_void type = (type.depth == 0) && is_void_leaf type.leaf
 
 -- a plain signature, all parts of which are of a form that is run
 abbrev pub is_run : View → MethodSig → Bool
@@ -252,13 +252,13 @@ check_in v None = None
 check_in v (Some row) =
     if is_outer_ref v row && bytes_eq (text_at v (cell v type_refs row 2)) (codes "Microsoft.Pex.Framework") then check_named (ref_name v row) else None
 
-abbrev pub is_bool_layer : SigType-F SigType → Bool
-is_bool_layer (Int integers.Bool) = true
-is_bool_layer _ = false
+abbrev pub is_bool_leaf : SigLeaf → Bool
+is_bool_leaf (Int integers.Bool) = true
+is_bool_leaf _ = false
 
 -- a bool alone
 abbrev pub is_bool : List SigType → Bool
-is_bool (type ∷ []) = is_bool_layer (out-SigType type)
+is_bool (type ∷ []) = (type.depth == 0) && is_bool_leaf type.leaf
 is_bool _ = false
 
 abbrev pub check_operand : Option Check → Option Operand

@@ -10,7 +10,7 @@ use crate::references::{member_name, parent_ref};
 use px_link_types::{ref_name, text_at};
 use px_meta::{TYPE_REFS, cell_of};
 use px_program::Check;
-use px_sig::{Integer, MethodSig, SigType};
+use px_sig::{Integer, MethodSig, SigLeaf, SigType};
 use px_tables::Tables;
 
 fn check_named(name: &[u8]) -> Option<Check>
@@ -52,7 +52,7 @@ fn is_bool(params: &[SigType]) -> bool
     ensures { result ≡ is_bool params.now }
 {
     match params {
-        [only] => matches!(only, SigType::Int(Integer::Bool)),
+        [only] => only.depth == 0 && matches!(only.leaf, SigLeaf::Int(Integer::Bool)),
         _ => false,
     }
 }
@@ -66,7 +66,7 @@ pub fn check_of(tables: &Tables, row: u32, sig: &MethodSig) -> Option<Operand>
     let is_plain_static = !sig.has_this && sig.plain;
     if member_name(tables, row) == b"IsTrue".as_slice()
         && is_plain_static
-        && is_void(&sig.ret)
+        && is_void(sig.ret)
         && is_bool(sig.params.as_slice())
     {
         Some(Operand::Check(check_in(tables, parent_ref(tables, row))?))

@@ -71,7 +71,7 @@ fn constructor_of(
     let Some(class) = class else {
         return Ok(None);
     };
-    if !(sig.has_this && sig.plain && is_void(&sig.ret)) {
+    if !(sig.has_this && sig.plain && is_void(sig.ret)) {
         return Ok(None);
     }
     let Some(params) = each_known(alloc, meta, sig.params.as_slice())? else {

@@ -14,7 +14,7 @@ fn spec_at(meta: &Meta, token: u32) -> Option<Key>
     ensures key { result ≡ spec_at meta.now token }
     ensures there { IfSome result (IsKey meta.now) }
 {
-    known_key(meta, meta.spec(token)?)
+    known_key(meta, *meta.spec(token)?)
 }
 
 /// What a token names as the elements of an array: a class, an integer, or what a TypeSpec spells.

@@ -15,7 +15,7 @@ use px_meta::{FIELDS, Meta, MetaField};
 fn is_asked(meta: &Meta, is_static: bool, field: &MetaField) -> bool
     ensures { result ≡ is_asked meta.now is_static field.now }
 {
-    (field.flags / 16 % 2 == 1) == is_static && is_form(meta, &field.sig)
+    (field.flags / 16 % 2 == 1) == is_static && is_form(meta, field.sig)
 }
 
 // Whether a field can be run on: one of instances of a class, or a static one of a type without an initialiser.

@@ -24,7 +24,7 @@ pub enum Way {
 fn are_forms(meta: &Meta, types: &[SigType]) -> bool
     ensures { result ≡ are_forms meta.now types.now }
 {
-    types.iter().all(|item| is_form(meta, item))
+    types.iter().all(|item| is_form(meta, *item))
 }
 
 // Whether a signature is plain, and all its parts are of a form that is run.
@@ -33,7 +33,7 @@ fn is_run(meta: &Meta, sig: &MethodSig) -> bool
 {
     sig.plain
         && are_forms(meta, sig.params.as_slice())
-        && (is_void(&sig.ret) || is_form(meta, &sig.ret))
+        && (is_void(sig.ret) || is_form(meta, sig.ret))
 }
 
 // Whether a method may be called in a way: what touches a type must not have to run its initialiser.
@@ -43,7 +43,7 @@ fn takes_call(tokens: &Tokens, way: Way, method: &MetaMethod) -> bool
 {
     let meta = tokens.meta();
     let owner = method.owner;
-    let has_this = method.sig.has_this;
+    let has_this = method.sig.get().has_this;
     match way {
         Way::Called => {
             is_owned(meta, has_this, owner)
@@ -55,7 +55,7 @@ fn takes_call(tokens: &Tokens, way: Way, method: &MetaMethod) -> bool
             is_owned(meta, true, owner)
                 && method.rva != 0
                 && has_this
-                && is_void(&method.sig.ret)
+                && is_void(method.sig.get().ret)
                 && !tokens.has_initialiser(owner)
         }
     }
@@ -66,7 +66,7 @@ fn fits_call(tokens: &Tokens, way: Way, method: &MetaMethod) -> bool
     requires { method.now.owner ≢ 0 → IsRow tokens.now type_defs method.now.owner }
     ensures { result ≡ fits_call tokens.now (way_of way) method.now }
 {
-    is_run(tokens.meta(), &method.sig) && takes_call(tokens, way, method)
+    is_run(tokens.meta(), method.sig.get()) && takes_call(tokens, way, method)
 }
 
 /// The method of the assembly that a token names, where it may be called in a way.

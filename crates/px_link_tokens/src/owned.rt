@@ -6,7 +6,7 @@ ghost use Rattle.std.specs.Prelude.{Some, true};
 
 use px_link_types::{is_class, key_of};
 use px_meta::Meta;
-use px_sig::SigType;
+use px_sig::{SigLeaf, SigType};
 
 /// Whether some type has a member, which is a class where that is asked.
 pub fn is_owned(meta: &Meta, class: bool, owner: u32) -> bool
@@ -18,15 +18,15 @@ pub fn is_owned(meta: &Meta, class: bool, owner: u32) -> bool
 }
 
 /// Whether a type is of a form that is run.
-pub fn is_form(meta: &Meta, item: &SigType) -> bool
-    ensures { result ≡ read_form meta.now (Some item.now) }
+pub fn is_form(meta: &Meta, item: SigType) -> bool
+    ensures { result ≡ read_form meta.now (Some item) }
 {
     key_of(meta, item).is_some()
 }
 
 /// Whether a signature returns nothing.
-pub fn is_void(item: &SigType) -> bool
-    ensures { result ≡ is_void item.now }
+pub fn is_void(item: SigType) -> bool
+    ensures { result ≡ is_void item }
 {
-    matches!(item, SigType::Void)
+    item.depth == 0 && matches!(item.leaf, SigLeaf::Void)
 }

@@ -1,4 +1,3 @@
-pub mod Arrays
 pub mod Closed
 pub mod Derived
 pub mod Ends

@@ -5,7 +5,7 @@ use Rattle.std.specs.List.{AllByRecursion, range_with_len}
 use Rattle.std.specs.Option.{unwrap_or}
 use Rattle.std.proofs.lemmas.Bool.{cond_both, eqb-true}
 use Rattle.std.proofs.lemmas.Bool.Decides.{nat_tests}
-use Rattle.std.proofs.lemmas.Option.{slice_get_read}
+use Rattle.std.proofs.lemmas.Option.{slice_get-get_or, slice_get_read}
 use Rattle.px_tables.specs.Counts.{has_bit}
 use Rattle.px_tables.specs.Metadata.{View}
 use Rattle.px_meta.specs.Members.{IsField, is_listed, list_end, list_start, owner_of}
@@ -123,6 +123,12 @@ pub item_of : {X : Type 0} (Is : View → ℕ → X → Type 0) (v : View) (tabl
 item_of Is v table row items x are is e =
     let same : (row - 1) + 1 ≡ row = omega (arith, is.some) in
     subst (λ r. Is v r x) same (are.each (row - 1) x (slice_get_read items (count_of v table) (row - 1) x (sym are.count) (omega (arith, is.some, is.few)) e))
+
+-- the same where it is read with something for what isn't there
+pub item_at : {X : Type 0} (Is : View → ℕ → X → Type 0) (v : View) (table row : ℕ) (items : List X) (d : X) → AreRows Is v table items → IsRow v table row → Is v row (get_or items (row - 1) d)
+item_at Is v table row items d are is =
+    let same : (row - 1) + 1 ≡ row = omega (arith, is.some) in
+    subst (λ r. Is v r (get_or items (row - 1) d)) same (are.each (row - 1) _ (slice_get-get_or items (row - 1) d (omega (are.count, arith, is.some, is.few))))
 
 each_filtered : (P : ℕ → Type 0) (p : ℕ → Bool) (xs : List ℕ) → AllByRecursion P xs → AllByRecursion P (filter p xs)
 each_filtered P p [] each = tt

@@ -1,6 +1,6 @@
 -- What a type of the assembly names is there.
 use Rattle.std.proofs.Common.{◌≡◌, ◌≢◌, ℕ, zero, suc, ◌+◌, ◌/◌, ◌%◌, ◌^◌, ◌<◌, ◌≤◌, Bool, true, false, List, [], ◌∷◌, ◌++◌, length, map, Option, Some, None, refl, sym, ◌∙◌, subst, arith, eqb-true, eq-eqb, le-leb}
-use Rattle.std.specs.Prelude.{◌==◌, ◌&&◌, IfSome, codes, if◌then◌else◌, nat_le, nat_lt}
+use Rattle.std.specs.Prelude.{◌==◌, ◌&&◌, IfSome, codes, if◌then◌else◌, nat_le}
 use Rattle.std.specs.List.{AllByRecursion}
 use Rattle.std.specs.Str.{bytes_eq}
 use Rattle.std.proofs.lemmas.Bool.{and_from, and_parts, cond-true, cond_both, eqb-false, leb-true, ltb-false}
@@ -12,13 +12,13 @@ use Rattle.px_program.specs.Library.{library_types}
 use Rattle.px_program.specs.declared.program.TypeInfo.{TypeInfo}
 use Rattle.px_program.proofs.Types.{each-append}
 use Rattle.px_sig.specs.declared.sig.SigType.{SigType}
-use Rattle.px_sig.specs.declared.sig.SigType.TheFolds.{fold-roll-SigType, ind-SigType, map-SigType}
-use Rattle.px_sig.specs.declared.sig.SigType.TheOpen.{SigType-F, Void, Int, Str, Object, Class, Array, Other}
+use Rattle.px_sig.specs.declared.sig.SigLeaf.{SigLeaf}
+use Rattle.px_sig.specs.declared.sig.SigLeaf.TheVariants.{Void, Int, Str, Object, Class, Other}
 use Rattle.px_tables.specs.Metadata.{IsSound, View}
 use Rattle.px_link_types.specs.declared.key.Key.{Key}
 use Rattle.px_link_types.specs.declared.key.Leaf.{Leaf}
 use Rattle.px_link_types.specs.declared.key.Leaf.TheVariants.{Number, Library, Defined}
-use Rattle.px_link_types.specs.Keys.{IsKey, IsLeaf, array_in, base_index, class_of, class_or_object, defined_in, is_class, is_system, key_by, key_of, key_or_object, library_in, library_leaf, library_number, library_ref, number_from, ref_name}
+use Rattle.px_link_types.specs.Keys.{IsKey, IsLeaf, base_index, class_of, class_or_object, defined_in, is_class, is_system, in_arrays, key_of, key_or_object, leaf_of, library_in, library_leaf, library_number, library_ref, number_from, ref_name}
 use Rattle.px_link_types.specs.Numbers.{base_in_library, base_leaf, field_key, instance_fields, leaf_keys, own_of_key, own_types, read_key, static_fields}
 
 -- CLASSES
@@ -67,28 +67,20 @@ class_or_object_there v (Some leaf) is = is
 
 -- PLACES
 
-abbrev IsThere : View → SigType → Type 0
-IsThere v type = IfSome (key_of v type) (IsKey v)
+leaf_of_there : (v : View) (leaf : SigLeaf) → IfSome (leaf_of v leaf) (IsLeaf v)
+leaf_of_there v Void = tt
+leaf_of_there v (Int integer) = tt
+leaf_of_there v Str = omega arith
+leaf_of_there v Object = omega arith
+leaf_of_there v (Class at) = class_or_object_there v (class_of v at) (class_there v at)
+leaf_of_there v Other = tt
 
-array_there : (v : View) (element : Option Key) → IfSome element (IsKey v) → IfSome (array_in element) (IsKey v)
-array_there v None is = tt
-array_there v (Some key) is =
-    cond_both (nat_lt (key.depth + 1) (2 ^ 32)) (Some (record { depth = key.depth + 1; leaf = key.leaf })) None (λ o. IfSome o (IsKey v)) (λ fits. is) (λ deep. tt)
+in_arrays_there : (v : View) (depth : ℕ) (leaf : Option Leaf) → IfSome leaf (IsLeaf v) → IfSome (in_arrays depth leaf) (IsKey v)
+in_arrays_there v depth None is = tt
+in_arrays_there v depth (Some leaf) is = is
 
-layer_there : (v : View) (y : SigType-F ((type : SigType) × IsThere v type))
-    → IfSome (key_by v (map-SigType SigType (Option Key) (key_of v) (map-SigType ((type : SigType) × IsThere v type) SigType (λ e. e.0) y))) (IsKey v)
-layer_there v Void = tt
-layer_there v (Int integer) = tt
-layer_there v Str = omega arith
-layer_there v Object = omega arith
-layer_there v (Class at) = class_or_object_there v (class_of v at) (class_there v at)
-layer_there v (Array element) = array_there v (key_of v element.0) element.1
-layer_there v Other = tt
-
-key_there : (v : View) (type : SigType) → IsThere v type
-key_there v = ind-SigType (IsThere v) (λ x y is.
-    subst (λ o. IfSome o (IsKey v)) (sym (fold-roll-SigType (Option Key) (key_by v) x))
-    (subst (λ z. IfSome (key_by v (map-SigType SigType (Option Key) (key_of v) z)) (IsKey v)) is (layer_there v y)))
+key_there : (v : View) (type : SigType) → IfSome (key_of v type) (IsKey v)
+key_there v type = in_arrays_there v type.depth (leaf_of v type.leaf) (leaf_of_there v type.leaf)
 
 or_object_there : (v : View) (key : Option Key) → IfSome key (IsKey v) → IsKey v (key_or_object key)
 or_object_there v None is = omega arith

@@ -7,8 +7,8 @@ use Rattle.px_link_types.specs.declared.key.Key.{Key}
 use Rattle.px_link_types.specs.declared.key.Leaf.{Leaf}
 use Rattle.px_link_types.specs.declared.key.Leaf.TheVariants.{Number, Library, Defined}
 use Rattle.px_sig.specs.declared.sig.SigType.{SigType}
-use Rattle.px_sig.specs.declared.sig.SigType.TheFolds.{fold-SigType}
-use Rattle.px_sig.specs.declared.sig.SigType.TheOpen.{SigType-F, Void, Int, Str, Object, Class, Array, Other}
+use Rattle.px_sig.specs.declared.sig.SigLeaf.{SigLeaf}
+use Rattle.px_sig.specs.declared.sig.SigLeaf.TheVariants.{Void, Int, Str, Object, Class, Other}
 use Rattle.px_meta.specs.Rows.{IsRow, cell, some_row, text_at, type_defs, type_refs}
 use Rattle.px_meta.specs.Tokens.{row_in, table_in}
 use Rattle.px_program.specs.Library.{library_types}
@@ -88,23 +88,27 @@ abbrev pub class_or_object : Option Leaf → Leaf
 class_or_object None = Library 0
 class_or_object (Some leaf) = leaf
 
--- an array of what is known; no signature has room for arrays that lie 2^32 deep in each other
+-- what is in the arrays of a type; none where it is of a form that isn't run
+abbrev pub leaf_of : View → SigLeaf → Option Leaf
+leaf_of v Void = None
+leaf_of v (Int integer) = Some (Number integer)
+leaf_of v Str = Some (Library 17)
+leaf_of v Object = Some (Library 0)
+leaf_of v (Class at) = Some (class_or_object (class_of v at))
+leaf_of v Other = None
+
+abbrev pub in_arrays : ℕ → Option Leaf → Option Key
+in_arrays depth None = None
+in_arrays depth (Some leaf) = Some (record { depth = depth; leaf = leaf })
+
+-- what a type of a signature is; none where it is of a form that isn't run
+abbrev pub key_of : View → SigType → Option Key
+key_of v type = in_arrays type.depth (leaf_of v type.leaf)
+
+-- an array of what is known; numbers of 32 bits have no room for arrays that lie deeper in each other
 abbrev pub array_in : Option Key → Option Key
 array_in None = None
 array_in (Some key) = if nat_lt (key.depth + 1) (2 ^ 32) then Some (record { depth = key.depth + 1; leaf = key.leaf }) else None
-
--- what a type of a signature is, where its element is known; none where it is of a form that isn't run
-abbrev pub key_by : View → SigType-F (Option Key) → Option Key
-key_by v Void = None
-key_by v (Int integer) = Some (alone (Number integer))
-key_by v Str = Some (alone (Library 17))
-key_by v Object = Some object
-key_by v (Class at) = Some (alone (class_or_object (class_of v at)))
-key_by v (Array element) = array_in element
-key_by v Other = None
-
-abbrev pub key_of : View → SigType → Option Key
-key_of v = fold-SigType (Option Key) (key_by v)
 
 abbrev pub key_or_object : Option Key → Key
 key_or_object None = object

@@ -6,25 +6,8 @@ use Rattle.px_tables.specs.Metadata.{View}
 use Rattle.px_meta.specs.Rows.{fields, rows_in}
 use Rattle.px_meta.specs.declared.meta.MetaField.{MetaField}
 use Rattle.px_link_types.specs.Numbers.{Numbers, is_field_of, is_numbered, is_static_field, library_keys, own_types}
-use Rattle.px_sig.specs.declared.sig.SigType.{SigType}
-use Rattle.px_sig.specs.declared.sig.SigType.TheVariants as types
 use Rattle.px_link_types.specs.declared.key.Key.{Key}
-use Rattle.px_link_types.specs.declared.key.Leaf.{Leaf}
-use Rattle.px_link_types.specs.declared.key.Leaf.TheVariants.{Number, Library}
-use Rattle.px_link_types.specs.Keys.{IsKey, array_in, class_of, class_or_object}
-
--- what lies at the bottom of a type that is no array
-abbrev pub leaf_of : View → SigType → Option Leaf
-leaf_of v (types.Int integer) = Some (Number integer)
-leaf_of v types.Str = Some (Library 17)
-leaf_of v types.Object = Some (Library 0)
-leaf_of v (types.Class at) = Some (class_or_object (class_of v at))
-leaf_of v _ = None
-
--- so many arrays around what is there
-abbrev pub in_arrays : ℕ → Option Key → Option Key
-in_arrays zero key = key
-in_arrays (suc count) key = in_arrays count (array_in key)
+use Rattle.px_link_types.specs.Keys.{IsKey}
 
 -- the one kind of fields or the other: static ones, or those of instances
 abbrev pub is_kind : Bool → Bool → Bool

@@ -1,14 +1,13 @@
 // Types of the library, classes, and the places of signatures.
-ghost use Rattle.std.specs.Prelude.{◌≡◌, ◌+◌, IfSome};
+ghost use Rattle.std.specs.Prelude.{◌≡◌, IfSome};
 ghost use Rattle.px_meta.specs.Rows.{IsRow, type_defs, type_refs};
-ghost use Rattle.px_link_types.specs.Keys.{IsKey, IsLeaf, alone, class_of, class_or_object, defined_in, is_class, is_interface, is_value, key_of, library_in, object, place_key};
-ghost use Rattle.px_link_types.specs.Parts.{leaf_of};
+ghost use Rattle.px_link_types.specs.Keys.{IsKey, IsLeaf, alone, class_of, class_or_object, defined_in, is_class, is_interface, is_value, key_of, leaf_of, library_in, place_key};
 
 use crate::key::{Key, Leaf};
 use crate::library::{is_value_base, library_ref};
 use crate::table::base_index;
 use px_meta::{Meta, TYPE_DEFS, TYPE_REFS, cell_of, some_row};
-use px_sig::SigType;
+use px_sig::{SigLeaf, SigType};
 use px_tables::Tables;
 
 // Whether a type derives at once from the base of structs or that of enums.
@@ -76,39 +75,36 @@ pub fn class_of(meta: &Meta, token: u32) -> Option<Leaf>
     }
 }
 
-// What lies at the bottom of a type that is no array.
-fn leaf_of(meta: &Meta, item: &SigType) -> Option<Leaf>
-    ensures leaf { result ≡ leaf_of meta.now item.now }
+// What is in the arrays of a type, where it is of a form that is run.
+fn leaf_of(meta: &Meta, leaf: SigLeaf) -> Option<Leaf>
+    ensures leaf { result ≡ leaf_of meta.now leaf }
     ensures there { IfSome result (IsLeaf meta.now) }
 {
-    match item {
-        SigType::Int(integer) => Some(Leaf::Number(*integer)),
-        SigType::Str => Some(Leaf::Library(17)),
-        SigType::Object => Some(Leaf::Library(0)),
-        SigType::Class(token) => Some(class_of(meta, *token).unwrap_or(Leaf::Library(0))),
-        SigType::Void | SigType::Array(_) | SigType::Other => None,
+    match leaf {
+        SigLeaf::Int(integer) => Some(Leaf::Number(integer)),
+        SigLeaf::Str => Some(Leaf::Library(17)),
+        SigLeaf::Object => Some(Leaf::Library(0)),
+        SigLeaf::Class(token) => Some(class_of(meta, token).unwrap_or(Leaf::Library(0))),
+        SigLeaf::Void | SigLeaf::Other => None,
     }
 }
 
 /// What a type of a signature is (Partition II, 23.2.12). A class that isn't known, and an interface, reads as `Object`. None where the type is of a
 /// form that isn't run, such as a float, a struct or a pointer.
-pub fn key_of(meta: &Meta, item: &SigType) -> Option<Key>
-    ensures key { result ≡ key_of meta.now item.now }
+pub fn key_of(meta: &Meta, item: SigType) -> Option<Key>
+    ensures key { result ≡ key_of meta.now item }
     ensures there { IfSome result (IsKey meta.now) }
 {
-    let mut depth: u32 = 0;
-    let mut inner = item;
-    while let SigType::Array(element) = inner {
-        depth = depth.checked_add(1)?;
-        inner = element.get();
-    }
-    let leaf = leaf_of(meta, inner)?;
-    Some(Key { depth, leaf })
+    let leaf = leaf_of(meta, item.leaf)?;
+    Some(Key {
+        depth: item.depth,
+        leaf,
+    })
 }
 
 /// The same, where a type of another form stands as a reference to `Object`.
-pub fn place_key(meta: &Meta, item: &SigType) -> Key
-    ensures key { result ≡ place_key meta.now item.now }
+pub fn place_key(meta: &Meta, item: SigType) -> Key
+    ensures key { result ≡ place_key meta.now item }
     ensures there { IsKey meta.now result }
 {
     match key_of(meta, item) {

@@ -48,7 +48,7 @@ pub fn field_key(meta: &Meta, field: u32) -> Key
     ensures key { result ≡ field_key meta.now field }
     ensures there { IsKey meta.now result }
 {
-    place_key(meta, &meta.fields()[field as usize - 1].sig)
+    place_key(meta, meta.fields()[field as usize - 1].sig)
 }
 
 // Whether a field is one of those of a type that are asked for: of its instances, or its static ones.

@@ -1,9 +1,9 @@
 -- Methods that may override each other, by what was read of them.
-use Rattle.std.proofs.Common.{◌≡◌, ◌≢◌, ◌⊎◌, ℕ, zero, suc, ◌+◌, ◌-◌, ◌%◌, ◌<◌, ◌≤◌, Bool, true, false, cond, List, [], ◌∷◌, ◌++◌, length, get_or, take, drop, Option, Some, None, refl, sym, ap, ◌∙◌, subst, inl, inr, ⊎_elim, arith}
-use Rattle.std.specs.Prelude.{All, MatchOption, ◌==◌, ◌&&◌, find, nat_le, nat_lt, not, slice_get, take_while}
+use Rattle.std.proofs.Common.{◌≡◌, ◌≢◌, ℕ, zero, suc, ◌+◌, ◌-◌, ◌<◌, ◌≤◌, Bool, true, false, cond, List, [], ◌∷◌, ◌++◌, get_or, Option, Some, None, refl, sym, ap, ◌∙◌, subst, arith}
+use Rattle.std.specs.Prelude.{All, ◌==◌, ◌&&◌, find, nat_le, nat_lt, not, take_while}
 use Rattle.std.specs.List.{range_with_len}
 use Rattle.std.specs.Option.{unwrap_or}
-use Rattle.std.proofs.lemmas.Bool.{cases_eq, cases_lt, false≢true, ne_eqb}
+use Rattle.std.proofs.lemmas.Bool.{ne_eqb}
 use Rattle.std.proofs.lemmas.Bool.Decides.{nat_tests}
 use Rattle.std.proofs.lemmas.List.Elements.{All-head, All-tail}
 use Rattle.std.proofs.lemmas.List.Sums.{take_while-cons}
@@ -12,7 +12,7 @@ use Rattle.px_blobs.specs.Items.{IsStringAt}
 use Rattle.px_tables.specs.Counts.{has_bit}
 use Rattle.px_tables.specs.Metadata.{View}
 use Rattle.px_meta.specs.Impls.{IsAlike, IsMatch}
-use Rattle.px_meta.specs.Members.{IsMethod, flags_in, is_listed, list_end, list_start, owner_of}
+use Rattle.px_meta.specs.Members.{IsMethod, is_listed, list_end, list_start, owner_of}
 use Rattle.px_meta.specs.Overriding.{Derives, IsNamesake, MayOverride}
 use Rattle.px_meta.specs.Rows.{IsRow, cell, count_of, methods, text_at, type_defs}
 use Rattle.px_meta.specs.Tokens.{AreRows}

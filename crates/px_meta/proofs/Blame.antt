@@ -7,9 +7,9 @@ use Rattle.px_sig.specs.declared.sig.SigType.{SigType}
 use Rattle.px_blobs.specs.Items.{IsStringAt}
 use Rattle.px_tables.specs.Metadata.{View}
 use Rattle.px_meta.specs.Chains.{HasEnd, base_in, outer_of}
-use Rattle.px_meta.specs.Faults.{Bases, Blames, Field, HasFault, HasLists, HasNames, IsBefore, IsFaultless, IsFirstFault, IsWholeField, IsWholeMethod, IsWholeReference, Lists, MemberRef, Method, Outers, TypeDef, TypeRef, TypeSpec, order_of}
+use Rattle.px_meta.specs.Faults.{Bases, Blames, Field, HasFault, HasLists, HasNames, IsFaultless, IsWholeField, IsWholeMethod, IsWholeReference, Lists, MemberRef, Method, Outers, TypeDef, TypeRef, TypeSpec, order_of}
 use Rattle.px_meta.specs.Members.{IsField, IsMethod, field_sig_at, method_sig_at, type_sig_at}
-use Rattle.px_meta.specs.Parts.{BlamesRow, BlamesTable, IsFaultOf, IsFirstIn, IsSound}
+use Rattle.px_meta.specs.Parts.{BlamesRow, BlamesTable, IsSound}
 use Rattle.px_meta.specs.Resolved.{IsReference, IsSpec}
 use Rattle.px_meta.specs.Rows.{IsReadable, IsRow, cell, count_of, fields, member_refs, methods, token, type_defs, type_refs, type_specs}
 use Rattle.px_meta.specs.Tokens.{AreRows}
@@ -89,6 +89,12 @@ chain_blamed v row fault e lists names has =
 
 pub names_from : (v : View) (table row : ℕ) (namespace name : List ℕ) → IsStringAt v.strings (cell v table row 2) namespace × IsStringAt v.strings (cell v table row 1) name → HasNames v table row
 names_from v table row namespace name stand = record { name = record { text = name; stands = stand.1 }; namespace = record { text = namespace; stands = stand.0 } }
+
+-- names that were read
+pub names_there : {X : Type 0} (namespace name : X → List ℕ) (v : View) (table row : ℕ) (o : Option X) → is_some o ≡ true
+    → MatchOption o (HasNames v table row → ⊥) (λ x. IsStringAt v.strings (cell v table row 2) (namespace x) × IsStringAt v.strings (cell v table row 1) (name x)) → HasNames v table row
+names_there namespace name v table row None e m = absurd (false≢true e)
+names_there namespace name v table row (Some x) e m = names_from v table row (namespace x) (name x) m
 
 pub at_false : (b : Bool) (P Q : Type 0) → b ≡ false → MatchBool b P Q → Q
 at_false true P Q e p = absurd (false≢true (sym e))

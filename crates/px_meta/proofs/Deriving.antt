@@ -1,5 +1,5 @@
 -- Going up from type to base.
-use Rattle.std.proofs.Common.{◌≡◌, ◌≢◌, ◌⊎◌, ℕ, ◌+◌, ◌-◌, ◌<◌, ◌≤◌, Bool, true, false, List, [], ◌∷◌, length, Option, Some, None, refl, sym, ap, ◌∙◌, subst, inl, inr, ⊎_elim, arith}
+use Rattle.std.proofs.Common.{◌≡◌, ◌≢◌, ℕ, ◌+◌, ◌≤◌, List, [], ◌∷◌, length, Some, None, ap, ◌∙◌, subst, arith}
 use Rattle.px_tables.specs.Metadata.{View}
 use Rattle.px_meta.specs.Chains.{Ends, GoesOn, HasEnd, IsChain, base_in}
 use Rattle.px_meta.specs.Overriding.{Derives, Directly, Through}

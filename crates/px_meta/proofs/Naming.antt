@@ -1,6 +1,6 @@
 -- What tokens name.
-use Rattle.std.proofs.Common.{◌≡◌, ◌⊎◌, ℕ, ◌+◌, ◌-◌, ◌/◌, ◌%◌, ◌^◌, ◌<◌, ◌≤◌, Bool, true, false, cond, List, Option, Some, None, get_or, length, refl, sym, ap, ◌∙◌, subst, inl, inr, ⊎_elim, arith}
-use Rattle.std.specs.Prelude.{MatchOption, slice_get}
+use Rattle.std.proofs.Common.{◌≡◌, ◌⊎◌, ℕ, ◌+◌, ◌-◌, ◌/◌, ◌%◌, ◌^◌, ◌<◌, List, Option, Some, None, get_or, refl, sym, ◌∙◌, subst, inl, inr, ⊎_elim, arith}
+use Rattle.std.specs.Prelude.{MatchOption}
 use Rattle.std.proofs.lemmas.Bool.{cases_lt}
 use Rattle.std.proofs.lemmas.Bool.Decides.{nat_tests}
 use Rattle.std.proofs.lemmas.Option.{slice_get_read}
@@ -9,10 +9,9 @@ use Rattle.std.specs.Option.{option_map}
 use Rattle.px_sig.specs.declared.sig.MethodSig.{MethodSig}
 use Rattle.px_tables.specs.Metadata.{View}
 use Rattle.px_meta.specs.Faults.{HasNames, IsFaultless, MemberRef, TypeDef, TypeRef}
-use Rattle.px_meta.specs.Resolved.{IsSpec}
-use Rattle.px_meta.specs.Rows.{IsReadable, IsRow, cell, count_of, fields, member_refs, methods, some_row, type_defs, type_refs, type_specs}
+use Rattle.px_meta.specs.Rows.{IsReadable, IsRow, cell, count_of, fields, member_refs, methods, some_row, type_defs, type_refs}
 use Rattle.px_meta.specs.Members.{owner_of}
-use Rattle.px_meta.specs.Tokens.{AreRows, IsTypeName, IsTypeSpec, Names, NamesMember, NamesType, row_in, table_in}
+use Rattle.px_meta.specs.Tokens.{AreRows, IsTypeName, Names, NamesMember, NamesType, row_in}
 
 row_there : (v : View) (table row : ℕ) → IsRow v table row → some_row v table row ≡ Some row
 row_there v table row is = let a = is.some in let b = is.few in grind (arith, nat_tests)

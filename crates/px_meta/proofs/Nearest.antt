@@ -1,5 +1,5 @@
 -- The search for the nearest namesake.
-use Rattle.std.proofs.Common.{◌≡◌, ◌≢◌, ◌⊎◌, ℕ, ◌+◌, ◌<◌, ◌≤◌, Option, Some, None, refl, sym, ap, ◌∙◌, subst, inl, inr, ⊎_elim, arith, true}
+use Rattle.std.proofs.Common.{◌≡◌, ◌≢◌, ◌⊎◌, ℕ, ◌+◌, ◌≤◌, Some, None, refl, subst, inl, inr, ⊎_elim, true}
 use Rattle.px_tables.specs.Metadata.{View}
 use Rattle.px_meta.specs.Chains.{HasEnd, base_in}
 use Rattle.px_meta.specs.Overriding.{Behind, Derives, Directly, Here, IsFirstNamesake, IsNamesake, IsNearest, Through, is_virtual}

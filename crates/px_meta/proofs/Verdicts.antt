@@ -1,5 +1,5 @@
 -- Verdicts on the chains of bases and of outer types.
-use Rattle.std.proofs.Common.{◌≡◌, ◌⊎◌, ℕ, zero, suc, ◌+◌, ◌-◌, ◌/◌, ◌<◌, ◌≤◌, Bool, true, false, cond, leb, List, [], ◌∷◌, ◌++◌, length, get_or, replicate, take, drop, Option, Some, None, refl, sym, ap, ◌∙◌, subst, inl, inr, ⊎_elim, arith}
+use Rattle.std.proofs.Common.{◌≡◌, ℕ, zero, suc, ◌+◌, ◌-◌, ◌/◌, ◌<◌, ◌≤◌, Bool, true, false, cond, List, [], ◌∷◌, ◌++◌, length, get_or, replicate, take, drop, Option, Some, None, refl, sym, ap, ◌∙◌, subst, ⊎_elim, arith}
 use Rattle.std.specs.Prelude.{MatchBool, slice_index_or}
 use Rattle.std.proofs.lemmas.Bool.{cases_lt}
 use Rattle.std.proofs.lemmas.Bool.Decides.{nat_tests}
@@ -7,8 +7,8 @@ use Rattle.std.proofs.lemmas.Grind.{common_steps}
 use Rattle.std.proofs.lemmas.List.{get_or_past}
 use Rattle.px_tables.specs.Metadata.{View}
 use Rattle.px_meta.specs.Chains.{Ends, GoesOn, HasEnd, IsChain, base_in, encloser, nesting_in, outer_of}
-use Rattle.px_meta.specs.Rows.{IsRow, cell, count_of, nested_classes, row_by, rows_in, some_row, type_defs}
-use Rattle.px_meta.specs.Walks.{AreKnown, AreNexts, AreOf, AreVerdicts, AreWalked, IsVerdict, next_in, walk_of}
+use Rattle.px_meta.specs.Rows.{IsRow, cell, count_of, nested_classes, rows_in, some_row, type_defs}
+use Rattle.px_meta.specs.Walks.{AreKnown, AreNexts, AreOf, AreVerdicts, AreWalked, IsVerdict, next_in}
 use Rattle.px_meta.proofs.Rows.{of_row, written}
 use Rattle.px_meta.proofs.Walking.{one_more_known}
 

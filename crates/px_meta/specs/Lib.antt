@@ -2,6 +2,7 @@ pub mod Chains
 pub mod Faults
 pub mod FullNames
 pub mod Impls
+pub mod Known
 pub mod Members
 pub mod Overriding
 pub mod Parts

@@ -7,7 +7,7 @@ use Rattle.px_sig.specs.declared.sig.SigType.{SigType}
 use Rattle.px_sig.specs.Grammar.{field_sig, method_sig, type_sig}
 use Rattle.px_tables.specs.Metadata.{View}
 use Rattle.px_meta.specs.Chains.{outer_of}
-use Rattle.px_meta.specs.Rows.{cell, coded_token, count_of, fields, methods, rows_in, token, type_def_or_ref, type_defs}
+use Rattle.px_meta.specs.Rows.{cell, coded_token, count_of, fields, methods, rows_in, type_def_or_ref, type_defs}
 use Rattle.px_meta.specs.declared.meta.MetaField.{MetaField}
 use Rattle.px_meta.specs.declared.meta.MetaMethod.{MetaMethod}
 use Rattle.px_meta.specs.declared.meta.MetaType.{MetaType}

@@ -3,6 +3,7 @@
 
 mod chain;
 mod fault;
+mod known;
 mod members;
 mod meta;
 mod metadata;

@@ -1,4 +1,5 @@
 // Types and members.
+use px_shared::Shared;
 use px_sig::{MethodSig, SigType};
 
 /// A type of the assembly: Partition II, 22.37. `base` is a token, and `outer` the row of the type that it is nested in.
@@ -20,7 +21,7 @@ pub struct MetaMethod<'a> {
     pub name: &'a str,
     pub flags: u16,
     pub rva: u32,
-    pub sig: MethodSig,
+    pub sig: Shared<MethodSig>,
 }
 
 /// A field of the assembly: Partition II, 22.15. `owner` is the row of its type, and 0 where no type has it.

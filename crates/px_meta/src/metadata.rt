@@ -1,12 +1,15 @@
 // Resolves metadata.
 ghost use Rattle.std.specs.Prelude.{◌≡◌, ℕ, MatchOption, OnOk, IfOk, IfErr, IfSome};
+ghost use Rattle.std.specs.Option.{option_copied};
 ghost use Rattle.px_meta.specs.Faults.{Blames, IsFaultless};
+ghost use Rattle.px_meta.specs.Known.{IsKnown};
 ghost use Rattle.px_meta.specs.Members.{IsField, IsMethod, IsType};
 ghost use Rattle.px_meta.specs.Overriding.{Overrides};
 ghost use Rattle.px_meta.specs.Rows.{IsRow, fields, methods, type_defs, type_specs};
 ghost use Rattle.px_meta.specs.Tokens.{AreRows, IsMember, IsOverridden, IsTypeName, IsTypeSpec, Names, NamesMember, NamesType};
 
 use crate::fault::MetaFault;
+use crate::known::Known;
 use crate::members::{read_fields, read_methods, read_references, read_specs};
 use crate::meta::{Member, MetaField, MetaMethod, MetaType};
 use crate::overriding::{by_name, declared_of};
@@ -15,6 +18,7 @@ use crate::table::{
     parent_token, row_named, text_of, token_of,
 };
 use crate::types::{check_type_refs, read_types};
+use px_shared::Shared;
 use px_sig::{MethodSig, SigType};
 use px_tables::Tables;
 use std::alloc::Global;
@@ -28,7 +32,7 @@ pub struct Meta<'a> {
     methods: Vec<MetaMethod<'a>>,
     fields: Vec<MetaField<'a>>,
     // the signatures of references to members, and None of one to a field
-    references: Vec<Option<MethodSig>>,
+    references: Vec<Option<Shared<MethodSig>>>,
     specs: Vec<SigType>,
     // the methods that rows of MethodImpl say to be overridden
     declared: Vec<Option<u32>>,
@@ -45,19 +49,23 @@ impl<'a> Model for Meta<'a> {
     ghost invariant = { λ m. IsResolved m.tables m.types.items m.methods.items m.fields.items m.references.items m.specs.items m.declared.items };
 }
 
-/// Reads names, signatures, owners and bases, and checks that each can be read and that no chain of types comes back.
-/// It takes time by the size of the tables. The fault is the first, by table, row, and then the order of the kinds.
-pub fn resolve<'a>(alloc: Global, tables: Tables<'a>) -> Result<Meta<'a>, MetaFault>
+// Resolves metadata, where something of the heaps is known.
+fn resolve_with<'a>(
+    alloc: Global,
+    tables: Tables<'a>,
+    known: &mut Known<'a>,
+) -> Result<Meta<'a>, MetaFault>
+    requires { IsKnown tables known.old }
     ensures same { IfOk result (λ meta. meta ≡ tables.entry) }
     ensures faultless { OnOk result (IsFaultless tables.entry) }
     ensures fault { IfErr result (Blames tables.entry) }
 {
-    check_type_refs(&tables)?;
-    let types = read_types(alloc, &tables)?;
-    let fields = read_fields(alloc, &tables)?;
-    let methods = read_methods(alloc, &tables)?;
-    let references = read_references(alloc, &tables)?;
-    let specs = read_specs(alloc, &tables)?;
+    check_type_refs(&tables, known)?;
+    let types = read_types(alloc, &tables, known)?;
+    let fields = read_fields(alloc, &tables, known)?;
+    let methods = read_methods(alloc, &tables, known)?;
+    let references = read_references(alloc, &tables, known)?;
+    let specs = read_specs(alloc, &tables, known)?;
     let declared = declared_of(alloc, &tables, &methods)?;
     Ok(Meta {
         tables,
@@ -68,6 +76,27 @@ pub fn resolve<'a>(alloc: Global, tables: Tables<'a>) -> Result<Meta<'a>, MetaFa
         specs,
         declared,
     })
+}
+
+/// Reads names, signatures, owners and bases, and checks that each can be read and that no chain of types comes back.
+/// It takes time by the size of the tables, and reads each place of the heaps once. The fault is the first, by table, row, and then the order of the kinds.
+pub fn resolve<'a>(alloc: Global, tables: Tables<'a>) -> Result<Meta<'a>, MetaFault>
+    ensures same { IfOk result (λ meta. meta ≡ tables.entry) }
+    ensures faultless { OnOk result (IsFaultless tables.entry) }
+    ensures fault { IfErr result (Blames tables.entry) }
+{
+    let mut known = Known::new(alloc, &tables);
+    resolve_with(alloc, tables, &mut known)
+}
+
+// The signature of a reference, lent.
+fn lent(sig: &Option<Shared<MethodSig>>) -> Option<&MethodSig>
+    ensures { option_copied result ≡ sig.now }
+{
+    match sig {
+        Some(sig) => Some(sig.get()),
+        None => None,
+    }
 }
 
 impl<'a> Meta<'a> {
@@ -124,7 +153,7 @@ impl<'a> Meta<'a> {
         let row = row_named(&self.tables, MEMBER_REFS, token)?;
         let owner = parent_token(cell_of(&self.tables, MEMBER_REFS, row, 0));
         let name = text_of(&self.tables, cell_of(&self.tables, MEMBER_REFS, row, 1))?;
-        let sig = self.references[row as usize - 1].as_ref();
+        let sig = lent(&self.references[row as usize - 1]);
         Some(Member::External { owner, name, sig })
     }
 

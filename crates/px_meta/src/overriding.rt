@@ -22,8 +22,8 @@ fn matches(method: &MetaMethod, other: &MetaMethod) -> bool
 {
     method.flags / 64 % 2 == 1
         && other.flags / 64 % 2 == 1
-        && method.sig.has_this
-        && same_sig(&method.sig, &other.sig)
+        && method.sig.get().has_this
+        && same_sig(method.sig.get(), other.sig.get())
 }
 
 // Whether a method of a type has the name of another, which may override it.

@@ -8,6 +8,7 @@ ghost use Rattle.px_meta.specs.declared.fault.MetaFault.TheVariants.{Memory};
 
 use crate::fault::MetaFault;
 use px_blobs::blob_at;
+use px_shared::Shared;
 use px_sig::{MethodSig, SigFault, SigType, read_field_sig, read_method_sig, read_type_sig};
 use px_tables::{Heap, Tables};
 use std::alloc::Global;
@@ -25,7 +26,7 @@ pub fn method_sig_of(
     alloc: Global,
     tables: &Tables,
     at: u32,
-) -> Result<Option<MethodSig>, MetaFault>
+) -> Result<Option<Shared<MethodSig>>, MetaFault>
     ensures sig { IfOk result (λ sig. sig ≡ method_sig_at tables.now at) }
     ensures memory { IfErr result (λ fault. fault ≡ Memory) }
 {
@@ -33,7 +34,7 @@ pub fn method_sig_of(
         return Ok(None);
     };
     match read_method_sig(alloc, blob) {
-        Ok(sig) => Ok(Some(sig)),
+        Ok(sig) => Ok(Some(Shared::new(alloc, sig)?)),
         Err(SigFault::Bad { at: _ }) => Ok(None),
         Err(SigFault::Memory) => Err(MetaFault::Memory),
     }

@@ -2,14 +2,15 @@
 use Rattle.std.proofs.Common.{◌≡◌, ℕ, List, [], ◌∷◌, Some, refl, sym, subst, arith, rules, map}
 use Rattle.std.specs.Prelude.{slice_get}
 use Rattle.std.specs.List.{AllByRecursion}
-use Rattle.px_program.specs.Alone.{alone, array_of}
+use Rattle.px_program.specs.Alone.{alone, array_of, types_with}
 use Rattle.px_program.specs.Formed.{CanBegin, IsFormedIn, IsInteger, IsWellFormed, Overrides}
 use Rattle.px_program.specs.Library.{library_types}
+use Rattle.px_program.specs.Overriding.{AreByFirst}
 use Rattle.px_program.specs.declared.program.Method.{Method}
 use Rattle.px_program.specs.declared.program.Place.{Place}
 use Rattle.px_program.specs.declared.program.Program.{Program}
 use Rattle.px_program.specs.declared.program.TypeInfo.{TypeInfo}
-use Rattle.px_program.proofs.Types.{AreTypes-types_with, each-append, each_at}
+use Rattle.px_program.proofs.Types.{AreTypes-types_with, each-append, each-weaken, each_at}
 
 abbrev pub OverridesNothing : TypeInfo → Type 0
 OverridesNothing type = type.overrides ≡ []
@@ -20,6 +21,13 @@ library_overrides_nothing = search rules
 arrays_override_nothing : (elements : List Place) → AllByRecursion OverridesNothing (map array_of elements)
 arrays_override_nothing [] = tt
 arrays_override_nothing (element ∷ elements) = (refl, arrays_override_nothing elements)
+
+types_override_nothing : (elements : List Place) → AllByRecursion OverridesNothing (types_with elements)
+types_override_nothing elements = each-append OverridesNothing library_types (map array_of elements) library_overrides_nothing (arrays_override_nothing elements)
+
+-- nothing is in order
+nothing_by_first : (type : TypeInfo) → OverridesNothing type → AreByFirst type.overrides
+nothing_by_first type nothing = subst AreByFirst (sym nothing) tt
 
 -- where no type overrides anything, all overrides are as they should be
 pub nothing_overridden : (program : Program) → AllByRecursion OverridesNothing program.types → (type : ℕ) (info : TypeInfo) → slice_get program.types type ≡ Some info → AllByRecursion (Overrides program type) info.overrides
@@ -33,7 +41,8 @@ alone_formed elements method integers begins formed =
       few_methods = omega arith;
       entry = record { method = method; at = refl; is = begins };
       methods = (formed, tt);
-      overrides = nothing_overridden (alone elements method) (each-append OverridesNothing library_types (map array_of elements) library_overrides_nothing (arrays_override_nothing elements));
+      overrides = nothing_overridden (alone elements method) (types_override_nothing elements);
+      by_first = each-weaken OverridesNothing (λ type. AreByFirst type.overrides) nothing_by_first (types_with elements) (types_override_nothing elements);
     }
 
 pub formed_where_alone : (elements : List Place) (method : Method) (program : Program) → AllByRecursion IsInteger elements → CanBegin (alone elements method) method → IsFormedIn (alone elements method) method → program ≡ alone elements method → IsWellFormed program

@@ -1,7 +1,8 @@
 -- Well-formed programs: their numbers name what is there, their chains of types end, and their instructions lead to instructions.
-use Rattle.std.specs.Prelude.{◌≡◌, ◌≢◌, ◌⊎◌, ℕ, zero, suc, ◌<◌, ◌^◌, List, [], ◌∷◌, ◌==◌, ◌&&◌, ◌||◌, Bool, true, false, if◌then◌else◌, Option, Some, None, IsSome, IfSome, length, map, take, drop, slice_get, find}
+use Rattle.std.specs.Prelude.{◌≡◌, ◌≢◌, ◌⊎◌, ℕ, zero, suc, ◌<◌, ◌^◌, List, [], ◌∷◌, ◌==◌, ◌&&◌, ◌||◌, Bool, true, false, if◌then◌else◌, Option, Some, None, IsSome, IfSome, length, map, take, slice_get, find}
 use Rattle.std.specs.List.{AllByRecursion, list_all, list_any}
 use Rattle.px_program.specs.Library.{library_types}
+use Rattle.px_program.specs.Overriding.{AreByFirst}
 use Rattle.px_program.specs.declared.instr.Instr.{Instr}
 use Rattle.px_program.specs.declared.instr.Callee.{Callee}
 use Rattle.px_program.specs.declared.instr.Callee.TheVariants as callees
@@ -160,9 +161,9 @@ pub record AreTypes (types : List TypeInfo) : Type 0 where
 
 -- METHODS
 
--- the parameters beside the receiver (Partition I, 8.6.1.5)
-abbrev pub explicit_params : Method → List Place
-explicit_params method = if method.is_static then method.params else drop 1 method.params
+-- the parameters with the receiver first, where there is one (Partition I, 8.6.1.5)
+abbrev pub all_params : Method → List Place
+all_params method = if method.is_static then method.params else places.Ref method.owner ∷ method.params
 
 abbrev pub method_at : Program → ℕ → Option Method
 method_at program number = slice_get program.methods number
@@ -187,10 +188,6 @@ pub record IsConstructor (method : Method) : Type 0 where
   pub instance : IsInstance method
   pub no_return : method.ret ≡ None
   pub code : HasCode method
-
-abbrev pub HasReceiver : ℕ → List Place → Type 0
-HasReceiver owner [] = ⊥
-HasReceiver owner (place ∷ others) = place ≡ places.Ref owner
 
 abbrev pub CanCall : Program → Callee → Type 0
 CanCall program (callees.Method number) = HasMethod HasCode program number
@@ -229,7 +226,6 @@ pub record IsFormedIn (program : Program) (method : Method) : Type 0 where
   pub params : AllByRecursion (FitsPlace program.types) method.params
   pub ret : IfSome method.ret (FitsPlace program.types)
   pub locals : AllByRecursion (FitsPlace program.types) method.locals
-  pub receiver : IsInstance method → HasReceiver method.owner method.params
   pub operands : AllByRecursion (λ i. HasOperands program i.code) method.code
   pub classes : AllByRecursion (λ c. IfSome c.class (λ class. class < length program.types)) method.clauses
 
@@ -241,7 +237,7 @@ pub record Overrides (program : Program) (type : ℕ) (pair : ℕ × ℕ) : Type
   pub second_at : method_at program pair.1 ≡ Some second
   pub instance : IsInstance second
   pub returns : second.ret ≡ first.ret
-  pub params : drop 1 second.params ≡ drop 1 first.params
+  pub params : second.params ≡ first.params
   pub owned : IsKindOf program.types type second.owner
   pub derives : DerivesFrom program.types second.owner first.owner
 
@@ -250,7 +246,7 @@ pub record IsMaker (entry maker : Method) : Type 0 where
   pub instance : IsInstance maker
   pub owner : maker.owner ≡ entry.owner
   pub no_return : maker.ret ≡ None
-  pub receiver_alone : length maker.params ≡ 1
+  pub no_params : maker.params ≡ []
   pub code : HasCode maker
 
 abbrev pub MadeBy : Program → Method → Option ℕ → Type 0
@@ -268,3 +264,4 @@ pub record IsWellFormed (program : Program) : Type 0 where
   pub entry : HasMethod (CanBegin program) program program.entry
   pub methods : AllByRecursion (IsFormedIn program) program.methods
   pub overrides : (type : ℕ) (info : TypeInfo) → slice_get program.types type ≡ Some info → AllByRecursion (Overrides program type) info.overrides
+  pub by_first : AllByRecursion (λ info. AreByFirst info.overrides) program.types

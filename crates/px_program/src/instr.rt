@@ -43,16 +43,18 @@ pub type Text = Items<u16>;
 /// What moves a value to the stack, from it, or on it.
 #[derive(Drop)]
 pub enum Move {
-    /// `ldarg` of the parameter of this number: Partition III, 3.38.
+    /// `ldarg` of the parameter of this number, the receiver counted as the first: Partition III, 3.38.
     Argument(u32),
-    /// `starg` to the parameter of this number: Partition III, 3.61.
+    /// `starg` to the parameter of this number, the receiver counted as the first: Partition III, 3.61.
     SetArgument(u32),
     /// `ldloc` of the local of this number: Partition III, 3.43.
     Local(u32),
     /// `stloc` to the local of this number: Partition III, 3.63.
     SetLocal(u32),
-    /// `ldc` of a pattern, of 64 bits where `wide`, else of 32: Partition III, 3.40.
-    Constant { wide: bool, pattern: u64 },
+    /// `ldc.i4` of a pattern: Partition III, 3.40.
+    Constant32(u32),
+    /// `ldc.i8` of a pattern: Partition III, 3.40.
+    Constant64(u64),
     /// `ldnull`: Partition III, 3.45.
     Null,
     /// `ldstr` of a text: Partition III, 4.16.
@@ -225,7 +227,7 @@ pub enum Code {
     Outside(Name, u16),
 }
 
-/// An instruction at its offset in the method's code; `next` is the offset behind it.
+/// An instruction at its offset in the method's code; `next` is the offset after it.
 #[derive(Drop)]
 pub struct Instr {
     pub offset: u32,

@@ -1,8 +1,11 @@
 //! A program as it is run, and what a run of it is: plain data, with the definitions that all layers above cite.
 #![tactic(auto)]
 
+mod fields;
 mod instr;
+mod kinds;
 mod library;
+mod overriding;
 mod program;
 mod record;
 mod same;
@@ -12,6 +15,7 @@ pub use instr::{
     Arithmetic, Callee, Check, Checked, Code, Compare, Division, ElementForm, Field, Instr,
     IntegerType, Move, Shift, Test, Text, Unary,
 };
+pub use kinds::fits_is_preorder;
 pub use library::library_types;
 pub use program::{Clause, ClauseKind, Layout, Method, Name, Place, Program, Slot, TypeInfo};
 pub use record::{Bounds, End, Event, Limits, Record, Site, SiteKind, Value, Words};

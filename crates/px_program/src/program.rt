@@ -1,8 +1,11 @@
 // Types, methods and programs.
-ghost use Rattle.std.specs.Prelude.{◌≡◌};
+ghost use Rattle.std.specs.Prelude.{◌≡◌, slice_get};
 ghost use Rattle.px_program.specs.Alone.{no_layout};
+ghost use Rattle.px_program.specs.Arguments.{arguments_of};
+ghost use Rattle.px_program.specs.Formed.{all_params};
 
 use crate::Instr;
+use px_shared::SharedList;
 use sqlite_items::Items;
 use std::alloc::Global;
 
@@ -30,7 +33,7 @@ pub enum Place {
 }
 
 /// A type: its name, the numbers of its base and of its element's place, and its fields in order.
-/// `overrides` has pairs of a method and the method that takes its place in this type.
+/// `overrides` has pairs of a method and the method that takes its place in this type, in the order of the first.
 #[derive(Drop)]
 pub struct TypeInfo {
     pub name: Name,
@@ -61,18 +64,33 @@ pub struct Clause {
     pub class: Option<u32>,
 }
 
-/// A method. `owner` is the number of its type; the receiver of an instance method is its first parameter.
+/// A method. `owner` is the number of its type. An instance method has a receiver beside its parameters: a reference to its owner.
 #[derive(Drop)]
 pub struct Method {
     pub name: Name,
     pub owner: u32,
     pub is_static: bool,
-    pub params: Items<Place>,
+    pub params: SharedList<Place>,
     pub ret: Option<Place>,
-    pub locals: Items<Place>,
+    pub locals: SharedList<Place>,
     pub max_stack: u16,
-    pub code: Items<Instr>,
-    pub clauses: Items<Clause>,
+    pub code: SharedList<Instr>,
+    pub clauses: SharedList<Clause>,
+}
+
+impl Method {
+    /// What `ldarg` and `starg` mean by a number: the receiver is the first parameter where there is one (Partition I, 8.6.1.5). None where there are fewer.
+    pub fn param(&self, number: u32) -> Option<Place>
+        ensures { result ≡ slice_get (all_params self.now) number }
+    {
+        if self.is_static {
+            self.params.get(number as usize).copied()
+        } else if number == 0 {
+            Some(Place::Ref(self.owner))
+        } else {
+            self.params.get(number as usize - 1).copied()
+        }
+    }
 }
 
 /// What a method is in overriding: Partition II, 10.3. `overridden` is the nearest method that it overrides, at once or through others, of those that the
@@ -113,4 +131,16 @@ pub struct Program {
     pub entry: u32,
     pub maker: Option<u32>,
     pub layout: Layout,
+}
+
+impl Program {
+    /// What a run is given: the places of the entry's parameters, its receiver not among them.
+    pub fn arguments(&self) -> &[Place]
+        ensures { result.now ≡ arguments_of self.now }
+    {
+        match self.methods.get(self.entry as usize) {
+            Some(method) => method.params.as_slice(),
+            None => &[],
+        }
+    }
 }

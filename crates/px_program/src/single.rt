@@ -22,7 +22,7 @@ fn array_of(alloc: Global, element: Place) -> TypeInfo
     }
 }
 
-// The types of the library, and behind them the arrays of these elements.
+// The types of the library, and after them the arrays of these elements.
 fn types_with(alloc: Global, elements: &[Place]) -> Result<Items<TypeInfo>, AllocError>
     ensures { IfOk result (λ types. types ≡ types_with elements.now) }
 {

@@ -18,7 +18,8 @@ fn put_moved(out: &mut Out, step: &Move) {
         | Move::SetArgument(number)
         | Move::Local(number)
         | Move::SetLocal(number) => out.number(u64::from(*number)),
-        Move::Constant { wide: _, pattern } => out.number(*pattern),
+        Move::Constant32(pattern) => out.number(u64::from(*pattern)),
+        Move::Constant64(pattern) => out.number(*pattern),
         Move::Text(units) => put_units(out, units.as_slice()),
         Move::Null | Move::Duplicate | Move::Pop => {}
     }

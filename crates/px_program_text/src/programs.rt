@@ -1,7 +1,7 @@
 // Programs as text.
 use crate::codes::put_instrs;
 use crate::out::Out;
-use crate::words::{put_places, put_some_place};
+use crate::words::{put_places, put_places_on, put_some_place};
 use px_program::{Clause, ClauseKind, Layout, Method, Program, Slot, TypeInfo};
 use std::alloc::{AllocError, Global};
 
@@ -27,7 +27,7 @@ fn put_some_type(out: &mut Out, word: &str, class: Option<u32>) {
     }
 }
 
-// What a type is, behind its number.
+// What a type is, after its number.
 fn put_type(out: &mut Out, info: &TypeInfo) {
     out.name(info.name.as_slice());
     put_some_type(out, "on", info.base);
@@ -69,7 +69,17 @@ fn put_clauses(out: &mut Out, clauses: &[Clause]) {
     }
 }
 
-// What a method is, behind its number.
+// What a method takes: its receiver first, where it has one, and its parameters.
+fn put_params(out: &mut Out, method: &Method) {
+    if method.is_static {
+        put_places(out, "takes", method.params.as_slice());
+    } else {
+        out.typed("takes", method.owner);
+        put_places_on(out, method.params.as_slice());
+    }
+}
+
+// What a method is, after its number.
 fn put_signature(out: &mut Out, method: &Method) {
     out.name(method.name.as_slice());
     out.typed("of", method.owner);
@@ -78,7 +88,7 @@ fn put_signature(out: &mut Out, method: &Method) {
     } else {
         "instance"
     });
-    put_places(out, "takes", method.params.as_slice());
+    put_params(out, method);
     put_some_place(out, "returns", method.ret);
     put_places(out, "locals", method.locals.as_slice());
     out.counted("stack", u32::from(method.max_stack));

@@ -37,14 +37,19 @@ pub fn put_some_place(out: &mut Out, word: &str, place: Option<Place>) {
     }
 }
 
-/// Places behind a word, where there are any.
+/// Places one after another.
+pub fn put_places_on(out: &mut Out, places: &[Place]) {
+    for place in places {
+        put_place(out, *place);
+    }
+}
+
+/// Places after a word, where there are any.
 pub fn put_places(out: &mut Out, word: &str, places: &[Place]) {
     if !places.is_empty() {
         out.word(word);
     }
-    for place in places {
-        put_place(out, *place);
-    }
+    put_places_on(out, places);
 }
 
 /// The word of an integer type.

@@ -1,6 +1,7 @@
 // Runs every tuple of a domain.
 ghost use Rattle.std.specs.Prelude.{◌≡◌, ◌≤◌, ◌<◌, ◌^◌, ◌↔◌, IfOk, IsTrue};
-ghost use Rattle.px_domain.specs.Domain.{params_of, places_of, size_of};
+ghost use Rattle.px_domain.specs.Domain.{places_of, size_of};
+ghost use Rattle.px_program.specs.Arguments.{arguments_of};
 ghost use Rattle.px_session.specs.Explored.{IsExplored};
 ghost use Rattle.px_tests.specs.Sound.{Sound};
 ghost use Rattle.px_tree.specs.Tree.{HasPath, paths_of};
@@ -33,7 +34,7 @@ fn records_of(
     domain: &Domain,
     bounds: Bounds,
 ) -> Result<Vec<Record>, AllocError>
-    requires places { places_of domain.now ≡ params_of program.now }
+    requires places { places_of domain.now ≡ arguments_of program.now }
     requires few { size_of domain.now < 2 ^ 32 }
     ensures { IfOk result (λ v. IsExplored program.now domain.now bounds v.items) }
 {
@@ -61,7 +62,7 @@ pub fn explore_one(
     bounds: Bounds,
     limits: Limits,
 ) -> Result<Findings, AllocError>
-    requires places { places_of domain ≡ params_of program.now }
+    requires places { places_of domain ≡ arguments_of program.now }
     requires few { size_of domain < 2 ^ 32 }
     requires bounds { bounds.steps ≤ 8000 }
     ensures sound { IfOk result (Sound program.now) }

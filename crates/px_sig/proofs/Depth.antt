@@ -4,7 +4,7 @@ use Rattle.std.specs.Prelude.{nat_lt, if◌then◌else◌}
 use Rattle.std.proofs.lemmas.Bool.{le-ltb}
 use Rattle.px_blobs.specs.Items.{Compressed, compressed_at}
 use Rattle.px_reading.specs.Reading.{Read, ◌>>=◌}
-use Rattle.px_sig.specs.Grammar.{byte_at, byte_where, form_at, form_of, front_at, generic_at, is_generic, is_kind, is_named, known, many, method_at, nested_type_at, number_at, number_behind, numbers_at, other, shape_at, token_at, token_of, type_at, type_behind}
+use Rattle.px_sig.specs.Grammar.{byte_at, byte_where, form_at, form_of, front_at, generic_at, is_callee_kind, is_generic, is_named, known, many, method_at, nested_type_at, number_at, number_behind, numbers_at, other, shape_at, token_at, token_of, type_at, type_behind}
 use Rattle.px_sig.specs.declared.form.Form.{Form}
 use Rattle.px_sig.specs.declared.form.Form.TheVariants.{Alone, Class, Value, Variable, Modifier, Pinned, Array, Outer, General, Instance, Function}
 use Rattle.px_sig.specs.declared.sig.SigType.{SigType}
@@ -94,18 +94,18 @@ generic_grown kind blob at = by_test (is_generic kind)
     by_test true = then_grown end_of here at (number_at blob at) _ (number_grown blob at) (λ count. made_grown here count.end count.end (omega arith))
     by_test false = made_grown here at at (omega arith)
 
-front_grown : (blob : List ℕ) (at : ℕ) → Grown end_of at (front_at blob at)
+front_grown : (test : ℕ → Bool) (blob : List ℕ) (at : ℕ) → Grown end_of at (front_at test blob at)
 unfolding front_at
-front_grown blob at =
-    then_grown end_of end_of at (byte_where is_kind blob at) _ (where_grown is_kind blob at)
+front_grown test blob at =
+    then_grown end_of end_of at (byte_where test blob at) _ (where_grown test blob at)
     (λ kind. then_grown here end_of kind.end (generic_at kind.value blob kind.end) _ (generic_grown kind.value blob kind.end)
     (λ start. then_grown end_of end_of start (number_at blob start) _ (number_grown blob start) (λ count. made_grown end_of count.end _ (omega arith))))
 
 -- the types that lie in a type are read from places behind it
-method_grown : (type : ℕ → Result (Read SigType) ℕ) (blob : List ℕ) → ((at : ℕ) → Grown end_of at (type at)) → (at : ℕ) → Grown end_of at (method_at type blob at)
+method_grown : (test : ℕ → Bool) (type : ℕ → Result (Read SigType) ℕ) (blob : List ℕ) → ((at : ℕ) → Grown end_of at (type at)) → (at : ℕ) → Grown end_of at (method_at test type blob at)
 unfolding method_at
-method_grown type blob grown at =
-    then_grown end_of end_of at (front_at blob at) _ (front_grown blob at)
+method_grown test type blob grown at =
+    then_grown end_of end_of at (front_at test blob at) _ (front_grown test blob at)
     (λ front. then_grown end_of end_of front.end (type front.end) _ (grown front.end)
     (λ ret. then_grown end_of end_of ret.end (many type front.value.count ret.end) _ (many_grown type grown front.value.count ret.end) (λ params. made_grown end_of params.end _ (omega arith))))
 
@@ -129,7 +129,7 @@ behind_grown type blob grown Instance at =
     (λ code. then_grown end_of end_of code.end (token_at blob code.end) _ (token_grown blob code.end)
     (λ token. then_grown end_of end_of token.end (number_at blob token.end) _ (number_grown blob token.end)
     (λ count. then_grown end_of end_of count.end (many type count.value count.end) _ (many_grown type grown count.value count.end) (λ arguments. other_grown arguments.end))))
-behind_grown type blob grown Function at = then_grown end_of end_of at (method_at type blob at) _ (method_grown type blob grown at) (λ method. other_grown method.end)
+behind_grown type blob grown Function at = then_grown end_of end_of at (method_at is_callee_kind type blob at) _ (method_grown is_callee_kind type blob grown at) (λ method. other_grown method.end)
 
 pub type_grown : (depth : ℕ) (blob : List ℕ) (at : ℕ) → Grown end_of at (nested_type_at depth blob at)
 type_grown zero blob at = λ y is. absurd (cc)
@@ -160,11 +160,11 @@ many_same {X} from type other' grown agree (suc count) at le = each (many_same f
         after_same from type other' grown agree at _ _ le
         (λ first more. ap (λ (r : Result (Read (List X)) ℕ). r >>= λ others. Ok (record { value = first.value ∷ others.value; end = others.end })) (later first.end more))
 
-method_same : (from : ℕ) (type other' : ℕ → Result (Read SigType) ℕ) (blob : List ℕ) → ((at : ℕ) → Grown end_of at (type at)) → Agree from type other'
-    → (at : ℕ) → from ≤ at → method_at type blob at ≡ method_at other' blob at
+method_same : (test : ℕ → Bool) (from : ℕ) (type other' : ℕ → Result (Read SigType) ℕ) (blob : List ℕ) → ((at : ℕ) → Grown end_of at (type at)) → Agree from type other'
+    → (at : ℕ) → from ≤ at → method_at test type blob at ≡ method_at test other' blob at
 unfolding method_at
-method_same from type other' blob grown agree at le =
-    past_same end_of from at (front_at blob at) _ _ (front_grown blob at) le
+method_same test from type other' blob grown agree at le =
+    past_same end_of from at (front_at test blob at) _ _ (front_grown test blob at) le
     (λ front more. after_same from type other' grown agree front.end _ _ more
     (λ ret enough'. ap (λ (r : Result (Read (List SigType)) ℕ). r >>= λ params.
     Ok (record { value = record { has_this = front.value.has_this; plain = front.value.plain; ret = ret.value; params = params.value }; end = params.end }))
@@ -187,7 +187,7 @@ behind_same from type other' blob grown agree Instance at le =
     (λ code more. past_same end_of from code.end (token_at blob code.end) _ _ (token_grown blob code.end) more
     (λ token more'. past_same end_of from token.end (number_at blob token.end) _ _ (number_grown blob token.end) more'
     (λ count more''. ap (λ (r : Result (Read (List SigType)) ℕ). r >>= λ arguments. other arguments.end) (many_same from type other' grown agree count.value count.end more''))))
-behind_same from type other' blob grown agree Function at le = ap (λ (r : Result (Read MethodSig) ℕ). r >>= λ method. other method.end) (method_same from type other' blob grown agree at le)
+behind_same from type other' blob grown agree Function at le = ap (λ (r : Result (Read MethodSig) ℕ). r >>= λ method. other method.end) (method_same is_callee_kind from type other' blob grown agree at le)
 
 -- no type is nested deeper than there are bytes left
 enough : (depth : ℕ) (blob : List ℕ) (at : ℕ) → length blob ≤ at + depth → nested_type_at (suc depth) blob at ≡ nested_type_at depth blob at

@@ -1,14 +1,13 @@
 -- The type that stands behind modifiers and in arrays.
 use Rattle.std.proofs.Common.{◌≡◌, ◌≢◌, ℕ, suc, ◌+◌, List, Result, Ok, Err, refl, ap, ◌∙◌, arith}
 use Rattle.px_reading.specs.Reading.{Read, ◌>>=◌}
-use Rattle.px_sig.specs.Grammar.{form_at, token_at, type_at, type_behind}
+use Rattle.px_sig.specs.Grammar.{array_of, form_at, token_at, type_at, type_behind}
 use Rattle.px_sig.specs.Parts.{FailsAt, IsInner, within}
 use Rattle.px_sig.specs.declared.fault.SigFault.{SigFault}
 use Rattle.px_sig.specs.declared.fault.SigFault.TheVariants as faults
 use Rattle.px_sig.specs.declared.form.Form.{Form}
 use Rattle.px_sig.specs.declared.form.Form.TheVariants.{Modifier, Pinned, Array}
 use Rattle.px_sig.specs.declared.sig.SigType.{SigType}
-use Rattle.px_sig.specs.declared.sig.SigType as types
 use Rattle.px_sig.proofs.Depth.{unroll}
 
 -- a fault of a part is the fault of the whole
@@ -38,12 +37,20 @@ past_pinned blob at end is = by_form blob at Pinned end is
 pub past_array : (blob : List ℕ) (count at end : ℕ) → form_at blob at ≡ Ok (record { value = Array; end = end }) → within count (type_at blob at) ≡ within (count + 1) (type_at blob end)
 unfolding type_behind
 past_array blob count at end is =
-    let one : count + 1 ≡ suc count = omega arith in
-    rw one (ap (λ r. within count r) (by_form blob at Array end is) ∙ by_element (type_at blob end))
+    ap (λ r. within count r) (by_form blob at Array end is) ∙ by_element (type_at blob end)
   where
-    by_element : (r : Result (Read SigType) ℕ) → within count (r >>= λ element. Ok (record { value = types.Array element.value; end = element.end })) ≡ within (suc count) r
-    by_element (Ok x) = refl
+    by_element : (r : Result (Read SigType) ℕ) → within count (r >>= λ element. Ok (record { value = array_of element.value; end = element.end })) ≡ within (count + 1) r
+    by_element (Ok x) =
+        let one : suc x.value.depth + count ≡ x.value.depth + (count + 1) = omega arith in
+        ap (λ d. Ok (record { value = record { depth = d; leaf = x.value.leaf }; end = x.end })) one
     by_element (Err at) = refl
+
+-- in no array
+pub within_none : (r : Result (Read SigType) ℕ) → r ≡ within 0 r
+within_none (Ok x) =
+    let none : x.value.depth ≡ x.value.depth + 0 = omega arith in
+    ap (λ d. Ok (record { value = record { depth = d; leaf = x.value.leaf }; end = x.end })) none
+within_none (Err at) = refl
 
 -- a form that is none of these
 pub is_inner : (form : Form) → form ≢ Modifier → form ≢ Pinned → form ≢ Array → IsInner form

@@ -1,10 +1,11 @@
 -- What is owed behind the first bytes of generic types and of function pointers leads to their end.
 use Rattle.std.proofs.Common.{◌≡◌, ℕ, suc, ◌+◌, List, Result, Ok, Err, false, refl, sym, ◌∙◌, arith}
 use Rattle.px_reading.specs.Reading.{Read, ◌>>=◌}
-use Rattle.px_sig.specs.Grammar.{Front, byte_where, front_at, is_named, many, method_at, number_at, other, token_at, type_at, type_behind}
+use Rattle.px_sig.specs.Grammar.{Front, byte_where, front_at, is_callee_kind, is_named, many, method_at, number_at, other, plain_type, token_at, type_at, type_behind}
 use Rattle.px_sig.specs.Parts.{behind, behind_owed, behind_type, times}
 use Rattle.px_sig.specs.declared.form.Form.TheVariants.{Instance, Function}
-use Rattle.px_sig.specs.declared.sig.SigType.{SigType, Other}
+use Rattle.px_sig.specs.declared.sig.SigLeaf.TheVariants.{Other}
+use Rattle.px_sig.specs.declared.sig.SigType.{SigType}
 use Rattle.px_sig.specs.declared.sig.MethodSig.{MethodSig}
 use Rattle.px_sig.proofs.Many.{times_many, behind_same, and_no_more}
 
@@ -17,9 +18,9 @@ pub instance_owed : (blob : List ℕ) (at : ℕ) (kind token count : Read ℕ) �
 unfolding type_behind behind_owed
 instance_owed blob at kind token count a b c =
     rw (a, b, c)
-    (behind_same (many (type_at blob) count.value count.end) (λ _. Other) ∙ times_many (type_at blob) count.value count.end ∙ sym (and_no_more (times (behind_type blob) count.value count.end)))
+    (behind_same (many (type_at blob) count.value count.end) (λ _. plain_type Other) ∙ times_many (type_at blob) count.value count.end ∙ sym (and_no_more (times (behind_type blob) count.value count.end)))
 
-pub function_owed : (blob : List ℕ) (at : ℕ) (front : Read Front) → front_at blob at ≡ Ok front
+pub function_owed : (blob : List ℕ) (at : ℕ) (front : Read Front) → front_at is_callee_kind blob at ≡ Ok front
     → behind (type_behind (type_at blob) blob Function at) ≡ behind_owed blob (record { types = front.value.count + 1; shape = false }) front.end
 unfolding type_behind behind_owed method_at
 function_owed blob at front a =

@@ -7,8 +7,18 @@ use Rattle.px_reading.specs.Reading.{Read, ◌>>=◌}
 use Rattle.px_sig.specs.declared.form.Form.{Form}
 use Rattle.px_sig.specs.declared.form.Form.TheVariants as forms
 use Rattle.px_sig.specs.declared.sig.Integer.TheVariants as integers
-use Rattle.px_sig.specs.declared.sig.SigType.{SigType, Void, Int, Str, Object, Class, Array, Other}
+use Rattle.px_sig.specs.declared.sig.SigLeaf.{SigLeaf}
+use Rattle.px_sig.specs.declared.sig.SigLeaf.TheVariants.{Void, Int, Str, Object, Class, Other}
+use Rattle.px_sig.specs.declared.sig.SigType.{SigType}
 use Rattle.px_sig.specs.declared.sig.MethodSig.{MethodSig}
+
+-- a type that is no array
+abbrev pub plain_type : SigLeaf → SigType
+plain_type leaf = record { depth = zero; leaf = leaf }
+
+-- the array of elements of a type
+abbrev pub array_of : SigType → SigType
+array_of element = record { depth = suc element.depth; leaf = element.leaf }
 
 -- the form of the types that begin with a code; no type begins with any other byte
 unfoldable pub form_of : ℕ → Option Form
@@ -98,6 +108,11 @@ shape_at blob at = number_at blob at >>= λ rank. numbers_at blob rank.end >>= �
 abbrev pub is_kind : ℕ → Bool
 is_kind byte = (bit_and byte 0x80 == 0) && ((bit_and byte 0x0F == 0) || (bit_and byte 0x0F == 5))
 
+-- The same for what a function pointer points to: the low four bits may also be one of the calling conventions of unmanaged code,
+-- 1 to 4 for C, STDCALL, THISCALL and FASTCALL, and 9 for any: Partition II, 23.2.1 and 23.2.3.
+abbrev pub is_callee_kind : ℕ → Bool
+is_callee_kind byte = (bit_and byte 0x80 == 0) && (nat_lt (bit_and byte 0x0F) 6 || (bit_and byte 0x0F == 9))
+
 abbrev pub has_this : ℕ → Bool
 has_this kind = not (bit_and kind 0x20 == 0)
 
@@ -117,16 +132,16 @@ pub record Front : Type 0 where
   pub plain : Bool
   pub count : ℕ
 
--- the kind of a method and the count of its parameters
-unfoldable pub front_at : List ℕ → ℕ → Result (Read Front) ℕ
-front_at blob at =
-    byte_where is_kind blob at >>= λ kind. generic_at kind.value blob kind.end >>= λ start. number_at blob start >>= λ count.
+-- the kind of a method, a byte that passes the test, and the count of its parameters
+unfoldable pub front_at : (ℕ → Bool) → List ℕ → ℕ → Result (Read Front) ℕ
+front_at test blob at =
+    byte_where test blob at >>= λ kind. generic_at kind.value blob kind.end >>= λ start. number_at blob start >>= λ count.
     Ok (record { value = record { has_this = has_this kind.value; plain = is_plain kind.value; count = count.value }; end = count.end })
 
--- the signature of a method: its front, its return type and its parameters
-unfoldable pub method_at : (ℕ → Result (Read SigType) ℕ) → List ℕ → ℕ → Result (Read MethodSig) ℕ
-method_at type blob at =
-    front_at blob at >>= λ front. type front.end >>= λ ret. many type front.value.count ret.end >>= λ params.
+-- the signature of a method: its front, whose kind passes the test, its return type and its parameters
+unfoldable pub method_at : (ℕ → Bool) → (ℕ → Result (Read SigType) ℕ) → List ℕ → ℕ → Result (Read MethodSig) ℕ
+method_at test type blob at =
+    front_at test blob at >>= λ front. type front.end >>= λ ret. many type front.value.count ret.end >>= λ params.
     Ok (record { value = record { has_this = front.value.has_this; plain = front.value.plain; ret = ret.value; params = params.value }; end = params.end })
 
 -- a generic type is a class or a value type
@@ -134,23 +149,23 @@ abbrev pub is_named : ℕ → Bool
 is_named code = (code == 0x11) || (code == 0x12)
 
 abbrev pub other : ℕ → Result (Read SigType) ℕ
-other end = Ok (record { value = Other; end = end })
+other end = Ok (record { value = plain_type Other; end = end })
 
 -- what stands behind the first byte of a type, by its form; `type` reads the types in it
 unfoldable pub type_behind : (ℕ → Result (Read SigType) ℕ) → List ℕ → Form → ℕ → Result (Read SigType) ℕ
-type_behind type blob (forms.Alone itself) at = Ok (record { value = itself; end = at })
-type_behind type blob forms.Class at = token_at blob at >>= λ token. Ok (record { value = Class token.value; end = token.end })
+type_behind type blob (forms.Alone itself) at = Ok (record { value = plain_type itself; end = at })
+type_behind type blob forms.Class at = token_at blob at >>= λ token. Ok (record { value = plain_type (Class token.value); end = token.end })
 type_behind type blob forms.Value at = token_at blob at >>= λ token. other token.end
 type_behind type blob forms.Variable at = number_at blob at >>= λ number. other number.end
 type_behind type blob forms.Modifier at = token_at blob at >>= λ token. type token.end
 type_behind type blob forms.Pinned at = type at
-type_behind type blob forms.Array at = type at >>= λ element. Ok (record { value = Array element.value; end = element.end })
+type_behind type blob forms.Array at = type at >>= λ element. Ok (record { value = array_of element.value; end = element.end })
 type_behind type blob forms.Outer at = type at >>= λ inner. other inner.end
 type_behind type blob forms.General at = type at >>= λ element. shape_at blob element.end >>= λ end. other end
 type_behind type blob forms.Instance at =
     byte_where is_named blob at >>= λ code. token_at blob code.end >>= λ token. number_at blob token.end >>= λ count.
     many type count.value count.end >>= λ arguments. other arguments.end
-type_behind type blob forms.Function at = method_at type blob at >>= λ method. other method.end
+type_behind type blob forms.Function at = method_at is_callee_kind type blob at >>= λ method. other method.end
 
 -- a type in which types lie at most so deep in each other
 abbrev pub nested_type_at : ℕ → List ℕ → ℕ → Result (Read SigType) ℕ
@@ -167,7 +182,7 @@ whole blob read = if read.end == length blob then Ok read.value else Err read.en
 
 -- the signature of a method
 abbrev pub method_sig : List ℕ → Result MethodSig ℕ
-method_sig blob = method_at (type_at blob) blob 0 >>= whole blob
+method_sig blob = method_at is_kind (type_at blob) blob 0 >>= whole blob
 
 -- the signature of a field: 0x06 and a type
 abbrev pub field_sig : List ℕ → Result SigType ℕ

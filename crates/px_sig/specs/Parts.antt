@@ -1,15 +1,18 @@
 -- What the parts of the reader promise each other.
-use Rattle.std.specs.Prelude.{◌≡◌, ℕ, zero, suc, ◌==◌, length, if◌then◌else◌, List, [], ◌∷◌, Result, Ok, Err}
+use Rattle.std.specs.Prelude.{◌≡◌, ℕ, zero, suc, ◌+◌, ◌==◌, Bool, length, if◌then◌else◌, List, [], ◌∷◌, Result, Ok, Err}
 use Rattle.px_sig.specs.Reading.{Fails}
 use Rattle.px_reading.specs.Reading.{Read, ◌>>=◌}
-use Rattle.px_sig.specs.Grammar.{Front, shape_at, type_at, type_behind}
+use Rattle.px_sig.specs.Grammar.{Front, is_callee_kind, is_kind, plain_type, shape_at, type_at, type_behind}
+use Rattle.px_sig.specs.declared.cursor.Callee.{Callee}
+use Rattle.px_sig.specs.declared.cursor.Callee.TheVariants as callees
 use Rattle.px_sig.specs.declared.cursor.Front as front
 use Rattle.px_sig.specs.declared.fault.SigFault.{SigFault}
 use Rattle.px_sig.specs.declared.fault.SigFault.TheVariants as faults
 use Rattle.px_sig.specs.declared.form.Form.{Form}
 use Rattle.px_sig.specs.declared.form.Form.TheVariants as forms
 use Rattle.px_sig.specs.declared.form.Owes.{Owes}
-use Rattle.px_sig.specs.declared.sig.SigType.{SigType, Array}
+use Rattle.px_sig.specs.declared.sig.SigLeaf.{SigLeaf}
+use Rattle.px_sig.specs.declared.sig.SigType.{SigType}
 
 -- the fault is that of the reading, and never want of memory
 abbrev pub FailsAt : {X : Type 0} → SigFault → Result X ℕ → Type 0
@@ -25,6 +28,16 @@ Reads (Err fault) end read = FailsAt fault read
 abbrev pub Makes : {X : Type 0} → Result X SigFault → ℕ → Result (Read X) ℕ → Type 0
 Makes (Ok x) end read = read ≡ Ok (record { value = x; end = end })
 Makes (Err fault) end read = Fails fault read
+
+-- which bytes a signature may begin with
+abbrev pub kinds : Callee → ℕ → Bool
+kinds callees.Method = is_kind
+kinds callees.Pointer = is_callee_kind
+
+-- what was returned of a type that is no array
+abbrev pub plain : Result SigLeaf SigFault → Result SigType SigFault
+plain (Ok leaf) = Ok (plain_type leaf)
+plain (Err fault) = Err fault
 
 -- what was returned of a method's front, in the grammar's words
 abbrev pub shown : Result front.Front SigFault → Result Front SigFault
@@ -76,10 +89,9 @@ abbrev pub Leads : {X : Type 0} → List ℕ → Result Owes SigFault → ℕ �
 Leads blob (Ok owes) at read = behind read ≡ behind_owed blob owes at
 Leads blob (Err fault) at read = FailsAt fault read
 
--- an array of arrays, so many around a type
+-- so many arrays around a type
 abbrev pub arrays_of : ℕ → SigType → SigType
-arrays_of zero type = type
-arrays_of (suc count) type = arrays_of count (Array type)
+arrays_of count type = record { depth = type.depth + count; leaf = type.leaf }
 
 -- so many arrays around the type that is read
 abbrev pub within : ℕ → Result (Read SigType) ℕ → Result (Read SigType) ℕ

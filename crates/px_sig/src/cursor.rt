@@ -1,7 +1,7 @@
 // Reads the parts of a signature from left to right: Partition II, 23.2.
 ghost use Rattle.std.specs.Prelude.{◌≡◌, ◌==◌, ◌||◌, ◌+◌, ◌≤◌, ◌<◌, ◌^◌, ℕ, length, IfOk};
-ghost use Rattle.px_sig.specs.Grammar.{byte_at, byte_where, front_at, generic_at, is_kind, is_named, number_at, numbers_at, shape_at, token_at, token_of, type_at, type_behind, form_at};
-ghost use Rattle.px_sig.specs.Parts.{Leads, Passes, Reads, behind, end_at, shown};
+ghost use Rattle.px_sig.specs.Grammar.{byte_at, byte_where, front_at, generic_at, is_named, number_at, numbers_at, shape_at, token_at, token_of, type_at, type_behind, form_at};
+ghost use Rattle.px_sig.specs.Parts.{Leads, Passes, Reads, behind, end_at, kinds, shown};
 
 use crate::fault::SigFault;
 use crate::form::{Form, Owes, form_of};
@@ -24,6 +24,13 @@ pub(crate) struct Front {
     pub count: u32,
 }
 
+// What a method's signature is of: a method itself, or what a function pointer points to.
+#[derive(Clone, Copy)]
+pub(crate) enum Callee {
+    Method,
+    Pointer,
+}
+
 // The token that a coded index stands for.
 #[tactic(auto, unfolding(crate::specs::Grammar::token_of))]
 fn token_of(index: u32) -> Option<u32>
@@ -41,11 +48,16 @@ fn token_of(index: u32) -> Option<u32>
     }
 }
 
-// Whether the signature of a method may begin with the byte.
-fn is_kind(byte: u8) -> bool
-    ensures { result ≡ is_kind byte }
+// Whether a signature may begin with the byte.
+fn is_kind(callee: Callee, byte: u8) -> bool
+    ensures { result ≡ kinds callee byte }
 {
-    byte & 0x80 == 0 && (byte & 0x0F == 0 || byte & 0x0F == 5)
+    let convention = byte & 0x0F;
+    byte & 0x80 == 0
+        && match callee {
+            Callee::Method => convention == 0 || convention == 5,
+            Callee::Pointer => convention < 6 || convention == 9,
+        }
 }
 
 impl<'b> Cursor<'b> {
@@ -131,14 +143,14 @@ impl<'b> Cursor<'b> {
 
     // The kind of a method.
     #[tactic(auto, unfolding(crate::specs::Grammar::byte_where))]
-    fn kind(&mut self) -> Result<u8, SigFault>
-        ensures reads { Reads result self.new.at (byte_where is_kind self.old.blob.now self.old.at) }
+    fn kind(&mut self, callee: Callee) -> Result<u8, SigFault>
+        ensures reads { Reads result self.new.at (byte_where (kinds callee) self.old.blob.now self.old.at) }
         ensures blob { self.new.blob.now ≡ self.old.blob.now }
         ensures later { IfOk result (λ _. self.old.at < self.new.at) }
     {
         let at = self.at;
         let byte = self.byte()?;
-        if is_kind(byte) {
+        if is_kind(callee, byte) {
             Ok(byte)
         } else {
             Err(SigFault::Bad { at })
@@ -176,12 +188,12 @@ impl<'b> Cursor<'b> {
 
     /// What stands before the return type of a method.
     #[tactic(auto, unfolding(crate::specs::Grammar::front_at))]
-    pub fn front(&mut self) -> Result<Front, SigFault>
-        ensures reads { Reads (shown result) self.new.at (front_at self.old.blob.now self.old.at) }
+    pub fn front(&mut self, callee: Callee) -> Result<Front, SigFault>
+        ensures reads { Reads (shown result) self.new.at (front_at (kinds callee) self.old.blob.now self.old.at) }
         ensures blob { self.new.blob.now ≡ self.old.blob.now }
         ensures later { IfOk result (λ _. self.old.at < self.new.at) }
     {
-        let kind = self.kind()?;
+        let kind = self.kind(callee)?;
         self.generic(kind)?;
         Ok(Front {
             has_this: kind & 0x20 != 0,
@@ -249,7 +261,7 @@ impl<'b> Cursor<'b> {
                 Ok(Owes::types(u64::from(count)))
             }
             Form::Function => {
-                let front = self.front()?;
+                let front = self.front(Callee::Pointer)?;
                 Ok(Owes::types(u64::from(front.count) + 1))
             }
         }

@@ -12,4 +12,4 @@ mod types;
 pub use fault::SigFault;
 pub use read::{read_field_sig, read_locals_sig, read_method_sig, read_type_sig};
 pub use same::{same_sig, same_type};
-pub use sig::{Integer, MethodSig, SigType};
+pub use sig::{Integer, MethodSig, SigLeaf, SigType};

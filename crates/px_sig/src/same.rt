@@ -4,25 +4,10 @@ ghost use Rattle.std.specs.Prelude.{◌≡◌, ◌↔◌, IsTrue};
 use crate::sig::{MethodSig, SigType};
 
 /// Whether two types are the same. All types of other forms count as one.
-pub fn same_type(first: &SigType, second: &SigType) -> bool
-    ensures { IsTrue result ↔ (first.now ≡ second.now) }
+pub fn same_type(first: SigType, second: SigType) -> bool
+    ensures { IsTrue result ↔ (first ≡ second) }
 {
-    let (mut one, mut other) = (first, second);
-    loop {
-        match (one, other) {
-            (SigType::Array(inner), SigType::Array(opposite)) => {
-                one = inner.get();
-                other = opposite.get();
-            }
-            (SigType::Int(integer), SigType::Int(opposite)) => return integer == opposite,
-            (SigType::Class(token), SigType::Class(opposite)) => return token == opposite,
-            (SigType::Void, SigType::Void) => return true,
-            (SigType::Str, SigType::Str) => return true,
-            (SigType::Object, SigType::Object) => return true,
-            (SigType::Other, SigType::Other) => return true,
-            _ => return false,
-        }
-    }
+    first == second
 }
 
 // Whether two lists of types are the same.
@@ -33,7 +18,7 @@ fn same_types(first: &[SigType], second: &[SigType]) -> bool
         return false;
     }
     for (one, other) in first.iter().zip(second) {
-        if !same_type(one, other) {
+        if !same_type(*one, *other) {
             return false;
         }
     }
@@ -46,6 +31,6 @@ pub fn same_sig(first: &MethodSig, second: &MethodSig) -> bool
 {
     first.has_this == second.has_this
         && first.plain == second.plain
-        && same_type(&first.ret, &second.ret)
+        && same_type(first.ret, second.ret)
         && same_types(first.params.as_slice(), second.params.as_slice())
 }

@@ -1,5 +1,5 @@
 // Types and signatures.
-use sqlite_items::{Boxed, Items};
+use sqlite_items::Items;
 
 /// An integer type: Partition I, 8.2.2.
 #[derive(Clone, Copy, PartialEq, Eq)]
@@ -19,31 +19,24 @@ pub enum Integer {
     UN,
 }
 
-/// A type as a signature spells it: Partition II, 23.2.12.
-pub enum SigType {
+/// A type that is no one-dimensional array: Partition II, 23.2.12.
+#[derive(Clone, Copy, PartialEq, Eq)]
+pub enum SigLeaf {
     Void,
     Int(Integer),
     Str,
     Object,
     /// A class by its token: the number of its table times 2^24, and its row.
     Class(u32),
-    /// A one-dimensional array of elements of a type, with indexes from 0.
-    Array(Boxed<SigType>),
     /// A type of any other form.
     Other,
 }
 
-impl Drop for SigType {
-    // A loop, since arrays may lie in each other as deep as a signature is long.
-    fn drop(mut self) {
-        loop {
-            match self {
-                SigType::Array(element) => self = element.into_inner(),
-                SigType::Int(_) | SigType::Class(_) => return,
-                SigType::Void | SigType::Str | SigType::Object | SigType::Other => return,
-            }
-        }
-    }
+/// A type as a signature spells it: a leaf, in so many one-dimensional arrays with indexes from 0: Partition II, 23.2.12.
+#[derive(Clone, Copy, PartialEq, Eq)]
+pub struct SigType {
+    pub depth: u32,
+    pub leaf: SigLeaf,
 }
 
 /// The signature of a method: Partition II, 23.2.1 to 23.2.3. `has_this` says that it has a receiver, which isn't among its parameters.

@@ -1,13 +1,13 @@
 // Reads types and lists of types: Partition II, 23.2.12.
 ghost use Rattle.std.specs.Prelude.{◌≡◌, ◌+◌, ◌-◌, ◌*◌, ◌≤◌, ◌<◌, ℕ, List, length, vec_len, IfOk, IfErr, OnOk};
-ghost use Rattle.px_sig.specs.Grammar.{many, method_at, type_at, type_behind};
-ghost use Rattle.px_sig.specs.Parts.{Goes, IsInner, LeadsIn, Makes, MayPass, arrays_of, behind_all, behind_both, behind_owed};
+ghost use Rattle.px_sig.specs.Grammar.{is_kind, many, method_at, type_at, type_behind};
+ghost use Rattle.px_sig.specs.Parts.{Goes, IsInner, LeadsIn, Makes, MayPass, behind_all, behind_both, behind_owed, plain};
 
-use crate::cursor::Cursor;
+use crate::cursor::{Callee, Cursor};
 use crate::fault::SigFault;
 use crate::form::{Form, Owes};
-use crate::sig::{MethodSig, SigType};
-use sqlite_items::{Boxed, Items};
+use crate::sig::{MethodSig, SigLeaf, SigType};
+use sqlite_items::Items;
 use std::alloc::Global;
 
 // Puts what is owed on the pile, if that is anything: so a chain of pointers doesn't grow it.
@@ -20,18 +20,6 @@ fn owe(owed: &mut Vec<Owes>, more: Owes) -> Result<(), SigFault>
         owed.push(more)?;
     }
     Ok(())
-}
-
-// So many arrays around a type.
-fn arrays_of(alloc: Global, count: u32, inner: SigType) -> Result<SigType, SigFault>
-    ensures arrays { IfOk result (λ type. type ≡ arrays_of count inner) }
-    ensures memory { IfErr result (λ fault. fault ≡ SigFault.Memory) }
-{
-    let mut outer = inner;
-    for _ in 0..count {
-        outer = SigType::Array(Boxed::new(alloc, outer)?);
-    }
-    Ok(outer)
 }
 
 impl Cursor<'_> {
@@ -89,20 +77,20 @@ impl Cursor<'_> {
         }
     }
 
-    // What stands behind the first byte of a type that is no array.
+    // The type that is no array, by what follows its first byte.
     #[tactic(auto, unfolding(crate::specs::Grammar::type_behind))]
-    fn inner(&mut self, alloc: Global, form: Form) -> Result<SigType, SigFault>
+    fn inner(&mut self, alloc: Global, form: Form) -> Result<SigLeaf, SigFault>
         requires { IsInner form }
-        ensures makes { Makes result self.new.at (type_behind (type_at self.old.blob.now) self.old.blob.now form self.old.at) }
+        ensures makes { Makes (plain result) self.new.at (type_behind (type_at self.old.blob.now) self.old.blob.now form self.old.at) }
         ensures blob { self.new.blob.now ≡ self.old.blob.now }
     {
         match form {
             Form::Alone(itself) => Ok(itself),
-            Form::Class => Ok(SigType::Class(self.token()?)),
+            Form::Class => Ok(SigLeaf::Class(self.token()?)),
             form => {
                 let owes = self.owes(&form)?;
                 self.pass(alloc, owes)?;
-                Ok(SigType::Other)
+                Ok(SigLeaf::Other)
             }
         }
     }
@@ -112,9 +100,9 @@ impl Cursor<'_> {
         ensures makes { Makes result self.new.at (type_at self.old.blob.now self.old.at) }
         ensures blob { self.new.blob.now ≡ self.old.blob.now }
     {
-        let (arrays, form) = self.innermost()?;
-        let inner = self.inner(alloc, form)?;
-        arrays_of(alloc, arrays, inner)
+        let (depth, form) = self.innermost()?;
+        let leaf = self.inner(alloc, form)?;
+        Ok(SigType { depth, leaf })
     }
 
     /// So many types.
@@ -132,10 +120,10 @@ impl Cursor<'_> {
     /// The signature of a method.
     #[tactic(auto, unfolding(crate::specs::Grammar::method_at))]
     pub fn method(&mut self, alloc: Global) -> Result<MethodSig, SigFault>
-        ensures makes { Makes result self.new.at (method_at (type_at self.old.blob.now) self.old.blob.now self.old.at) }
+        ensures makes { Makes result self.new.at (method_at is_kind (type_at self.old.blob.now) self.old.blob.now self.old.at) }
         ensures blob { self.new.blob.now ≡ self.old.blob.now }
     {
-        let front = self.front()?;
+        let front = self.front(Callee::Method)?;
         let ret = self.sig_type(alloc)?;
         let params = self.types(alloc, front.count)?;
         Ok(MethodSig {

@@ -30,7 +30,6 @@ module _ (elements : List Place) (method : Method) (static : method.is_static â‰
     params = integers_fit (alone elements method).types method.params params;
     ret = rw ret tt;
     locals = rw locals tt;
-    receiver = Î» instance. cc;
     operands = named;
     classes = rw clauses tt;
   }

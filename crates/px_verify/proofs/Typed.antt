@@ -11,7 +11,7 @@ use Rattle.px_program.specs.declared.program.Method.{Method}
 use Rattle.px_program.specs.declared.program.Place.{Place}
 use Rattle.px_program.specs.declared.program.Place.TheVariants as places
 use Rattle.px_program.specs.declared.program.Program.{Program}
-use Rattle.px_program.specs.Formed.{instr_at, Follow, targets_of, is_start, IsFormed, IsFormedIn, HasMethod, HasCode, CanBegin, entry_of}
+use Rattle.px_program.specs.Formed.{all_params, instr_at, Follow, targets_of, is_start, IsFormed, IsFormedIn, HasMethod, HasCode, CanBegin, entry_of}
 use Rattle.px_verify.specs.Simple.{taken, is_turn, is_last, is_int32, has_value, is_known, is_target, after, is_fine, has_more, fault_from, fault_in, IsSimple}
 use Rattle.px_verify.specs.Typing.{depth_from, At, HasValue, Fits, IsTyped}
 
@@ -69,7 +69,7 @@ all_at p (x ∷ xs) n all h =
 -- What the test of an instruction says.
 
 pub record Fine (method : Method) (code : Code) (offset depth : ℕ) (more : Bool) : Type 0 where
-  pub known : is_known method.params code ≡ true
+  pub known : is_known method code ≡ true
   pub operands : taken code ≤ depth
   pub turn : (not (is_turn code) || (after depth code == 0)) ≡ true
   pub last : (more || is_last code) ≡ true
@@ -178,9 +178,9 @@ int32_place (Some places.I4) h = refl
 int32_place (Some _) h = absurd (cc)
 
 -- what passes the test of a move is there
-valued : (method : Method) (move : Move) → has_value method.params move ≡ true → HasValue method move
-valued method (moves.Argument n) h = int32_place (slice_get method.params n) h
-valued method (moves.Constant wide pattern) h = (grind arith, grind arith)
+valued : (method : Method) (move : Move) → has_value method move ≡ true → HasValue method move
+valued method (moves.Argument n) h = int32_place (slice_get (all_params method) n) h
+valued method (moves.Constant32 pattern) h = grind arith
 valued method _ h = absurd (cc)
 
 -- along an equation of depths

@@ -15,7 +15,7 @@ use Rattle.px_program.specs.declared.program.Place.TheVariants as places
 use Rattle.px_program.specs.declared.program.Program.{Program}
 use Rattle.px_verify.specs.declared.simple_methods.SimpleFault.{SimpleFault}
 use Rattle.px_verify.specs.declared.simple_methods.SimpleFault.TheVariants as faults
-use Rattle.px_program.specs.Formed.{IsWellFormed, entry_of, targets_of}
+use Rattle.px_program.specs.Formed.{IsWellFormed, all_params, entry_of, targets_of}
 
 -- how many operands an instruction takes, where it is one that may stand
 abbrev pub taken : Code → ℕ
@@ -51,10 +51,10 @@ is_int32 (Some places.I4) = true
 is_int32 (Some _) = false
 
 -- an argument is that of an int32 parameter, and a constant is one of 32 bits
-abbrev pub has_value : List Place → Move → Bool
-has_value params (moves.Argument n) = is_int32 (slice_get params n)
-has_value params (moves.Constant wide pattern) = not wide && nat_lt pattern (2 ^ 32)
-has_value params _ = false
+abbrev pub has_value : Method → Move → Bool
+has_value method (moves.Argument n) = is_int32 (slice_get (all_params method) n)
+has_value method (moves.Constant32 pattern) = nat_lt pattern (2 ^ 32)
+has_value method _ = false
 
 -- `add` or `sub`
 abbrev pub is_sum : Arithmetic → Bool
@@ -63,15 +63,15 @@ is_sum arithmetic.Sub = true
 is_sum _ = false
 
 -- the instruction is one that may stand, and names only what is there
-abbrev pub is_known : List Place → Code → Bool
-is_known params (codes.Nop is_break) = not is_break
-is_known params (codes.Move move) = has_value params move
-is_known params (codes.Arithmetic operation) = is_sum operation
-is_known params (codes.Branch target) = true
-is_known params (codes.BranchTruth when target) = true
-is_known params (codes.BranchCompare test signed target) = true
-is_known params codes.Return = true
-is_known params _ = false
+abbrev pub is_known : Method → Code → Bool
+is_known method (codes.Nop is_break) = not is_break
+is_known method (codes.Move move) = has_value method move
+is_known method (codes.Arithmetic operation) = is_sum operation
+is_known method (codes.Branch target) = true
+is_known method (codes.BranchTruth when target) = true
+is_known method (codes.BranchCompare test signed target) = true
+is_known method codes.Return = true
+is_known method _ = false
 
 -- some branch leads to the offset
 abbrev pub is_target : List Instr → ℕ → Bool
@@ -84,7 +84,7 @@ after depth code = depth - taken code + left code
 -- the instruction may stand where so many operands are, with more instructions behind it or not
 unfoldable pub is_fine : Method → Instr → ℕ → Bool → Bool
 is_fine method i depth more =
-    is_known method.params i.code && nat_le (taken i.code) depth && nat_le (after depth i.code) 8
+    is_known method i.code && nat_le (taken i.code) depth && nat_le (after depth i.code) 8
     && (not (is_turn i.code) || (after depth i.code == 0))
     && (more || is_last i.code)
     && ((depth == 0) || not (is_target method.code i.offset))

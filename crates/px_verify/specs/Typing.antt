@@ -1,5 +1,5 @@
 -- What each instruction of an accepted method finds on the stack, and where it leads.
-use Rattle.std.specs.Prelude.{◌≡◌, ℕ, ◌+◌, ◌-◌, ◌<◌, ◌≤◌, ◌^◌, List, [], ◌∷◌, ◌==◌, true, false, if◌then◌else◌, Option, Some, None, slice_get, IsSome}
+use Rattle.std.specs.Prelude.{◌≡◌, ℕ, ◌+◌, ◌-◌, ◌<◌, ◌≤◌, ◌^◌, List, [], ◌∷◌, ◌==◌, true, if◌then◌else◌, Option, Some, None, slice_get, IsSome}
 use Rattle.px_program.specs.declared.instr.Instr.{Instr}
 use Rattle.px_program.specs.declared.instr.Code.{Code}
 use Rattle.px_program.specs.declared.instr.Code.TheVariants as codes
@@ -7,7 +7,7 @@ use Rattle.px_program.specs.declared.instr.Move.{Move}
 use Rattle.px_program.specs.declared.instr.Move.TheVariants as moves
 use Rattle.px_program.specs.declared.program.Method.{Method}
 use Rattle.px_program.specs.declared.program.Place.TheVariants.{I4}
-use Rattle.px_program.specs.Formed.{instr_at}
+use Rattle.px_program.specs.Formed.{all_params, instr_at}
 use Rattle.px_verify.specs.Simple.{after, is_sum}
 
 -- the operands before the instruction at an offset, by a walk from a place with so many
@@ -21,8 +21,8 @@ At method at depth = depth_from 0 method.code at ≡ Some depth
 
 -- a value that is put on the stack is there
 abbrev pub HasValue : Method → Move → Type 0
-HasValue method (moves.Argument n) = slice_get method.params n ≡ Some I4
-HasValue method (moves.Constant wide pattern) = (wide ≡ false) × (pattern < 2 ^ 32)
+HasValue method (moves.Argument n) = slice_get (all_params method) n ≡ Some I4
+HasValue method (moves.Constant32 pattern) = pattern < 2 ^ 32
 HasValue method _ = ⊥
 
 -- what an instruction with so many operands needs, and where it leads

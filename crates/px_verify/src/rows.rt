@@ -1,11 +1,10 @@
 // What instructions take from the stack and leave on it.
 ghost use Rattle.std.specs.Prelude.{◌≡◌, ◌≤◌, ◌==◌};
 ghost use Rattle.std.specs.List.{list_any};
-ghost use Rattle.std.specs.Option.{option_copied};
 ghost use Rattle.px_program.specs.Formed.{targets_of};
 ghost use Rattle.px_verify.specs.Simple.{has_value, is_int32, is_known, is_last, is_sum, is_turn, left, taken};
 
-use px_program::{Arithmetic, Code, Move, Place};
+use px_program::{Arithmetic, Code, Method, Move, Place};
 
 // How many operands an instruction takes, where it is one that may stand.
 pub(crate) fn taken(code: &Code) -> usize
@@ -49,19 +48,23 @@ pub(crate) fn is_last(code: &Code) -> bool
 }
 
 // Whether there is a place, and it is that of an int32.
-fn is_int32(place: Option<&Place>) -> bool
-    ensures { result ≡ is_int32 (option_copied place.entry) }
+fn is_int32(place: Option<Place>) -> bool
+    ensures { result ≡ is_int32 place }
 {
     matches!(place, Some(Place::I4))
 }
 
 // Whether the value is that of an int32 parameter, or an int32 constant.
-fn has_value(params: &[Place], value: &Move) -> bool
-    ensures { result ≡ has_value params.now value.now }
+fn has_value(method: &Method, value: &Move) -> bool
+    ensures { result ≡ has_value method.now value.now }
 {
     match value {
-        Move::Argument(n) => is_int32(params.get(*n as usize)),
-        Move::Constant { wide, pattern } => !*wide && *pattern < 1 << 32,
+        Move::Argument(n) => is_int32(method.param(*n)),
+        Move::Constant32(pattern) => {
+            // where a proof reads a number it knows that it fits its type
+            let _pattern = *pattern;
+            true
+        }
         _ => false,
     }
 }
@@ -74,12 +77,12 @@ fn is_sum(operation: Arithmetic) -> bool
 }
 
 // Whether the instruction is one that may stand, and names only what is there.
-pub(crate) fn is_known(params: &[Place], code: &Code) -> bool
-    ensures { result ≡ is_known params.now code.now }
+pub(crate) fn is_known(method: &Method, code: &Code) -> bool
+    ensures { result ≡ is_known method.now code.now }
 {
     match code {
         Code::Nop { is_break } => !*is_break,
-        Code::Move(value) => has_value(params, value),
+        Code::Move(value) => has_value(method, value),
         Code::Arithmetic(operation) => is_sum(*operation),
         Code::Branch(_) | Code::BranchTruth { .. } => true,
         Code::BranchCompare { .. } | Code::Return => true,

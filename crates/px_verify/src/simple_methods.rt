@@ -17,7 +17,7 @@ pub enum SimpleFault {
     Memory,
     /// The offset of the entry's first instruction that may not stand there: one that isn't run, an `ldarg` of no int32
     /// parameter, an `ldc` that isn't of an int32, one that finds too few operands, leaves more than 8 (the most that
-    /// are accepted so far) or leaves some behind a branch or a return, one with operands where a branch leads to, or a
+    /// are accepted so far) or leaves some after a branch or a return, one with operands where a branch leads to, or a
     /// last one that goes on.
     At(u32),
 }
@@ -35,7 +35,7 @@ impl From<AllocError> for SimpleFault {
 // The most operands that may be on the stack at once.
 const MOST_OPERANDS: usize = 8;
 
-// Whether the instruction may stand where so many operands are, with more instructions behind it or not.
+// Whether the instruction may stand where so many operands are, with more instructions after it or not.
 #[tactic(auto, unfolding(crate::specs::Simple::is_fine))]
 fn is_fine(method: &Method, targets: &[u32], instr: &Instr, depth: usize, more: bool) -> bool
     requires targets { AreTargets method.now.code targets.now }
@@ -45,7 +45,7 @@ fn is_fine(method: &Method, targets: &[u32], instr: &Instr, depth: usize, more: 
     ensures room { IsTrue result → after depth instr.now.code ≤ MOST_OPERANDS }
 {
     let code = &instr.code;
-    if !is_known(method.params.as_slice(), code) || depth < taken(code) {
+    if !is_known(method, code) || depth < taken(code) {
         return false;
     }
     let after = depth - taken(code) + left(code);

@@ -12,7 +12,7 @@ returns-clause-row c = record {
   ];
   some_name = c.deref.result.now;
   name = string_stays c.name.new.self.strings c.field_sig.new.self.strings c.in_ok-sig.ensures.grows.strings c.in_ok-name-2.name c.deref.result.now c.in_ok-name-2.ensures.stands;
-  type = c.in_ok-item.item;
+  type = c.type_of-item.result;
   sig = c.in_ok-sig.ensures.stands;
-  is = c.in_ok-item.ensures.is;
+  is = c.type_of-item.ensures.is;
 }

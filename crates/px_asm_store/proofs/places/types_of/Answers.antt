@@ -16,11 +16,11 @@ loop-place-preserved c =
     let n = c.loop-place.place-index in
     let place = get_or xs n places.Bool in
     let types = c.loop-place.types in
-    let type = c.in_ok-type_of.field-0 in
+    let type = c.type_of.result in
     let at = slice_get-get_or xs n places.Bool c.loop-place-test.true in
     record {
-      are = zipped_more (IsTypeOf c.args.rows.now) xs n place types c.push.new.self type c.loop-place.invariant.are c.loop-place-test.true (sym (get_or_from_slice_get xs n place place at)) c.in_ok-type_of.ensures.is c.in_ok-push.ensures.ok;
+      are = zipped_more (IsTypeOf c.args.rows.now) xs n place types c.push.new.self type c.loop-place.invariant.are c.loop-place-test.true (sym (get_or_from_slice_get xs n place place at)) c.type_of.ensures.is c.in_ok-push.ensures.ok;
       spelled =
           ap (list_all is_spelled) c.in_ok-push.ensures.ok ∙ list_all-append is_spelled types (type ∷ [])
-          ∙ and_from (list_all is_spelled types) (list_all is_spelled (type ∷ [])) c.loop-place.invariant.spelled (and_from (is_spelled type) true c.in_ok-type_of.ensures.spelled refl);
+          ∙ and_from (list_all is_spelled types) (list_all is_spelled (type ∷ [])) c.loop-place.invariant.spelled (and_from (is_spelled type) true c.type_of.ensures.spelled refl);
     }

@@ -1,8 +1,9 @@
-use Rattle.std.proofs.Common.{◌≤◌, length, subst}
+use Rattle.std.proofs.Common.{subst}
+use Rattle.px_program.specs.Arguments.{AreGiven, arguments_of}
 use Rattle.px_program.specs.Formed.{IsWellFormed}
-use Rattle.px_link.specs.Link.{Blames, arguments_of}
+use Rattle.px_link.specs.Link.{Blames}
 use Rattle.px_link.proofs.Entries.{passed_on, starts_owned}
-use Rattle.px_link.proofs.Linking.{linked_few, linked_formed, of_linked}
+use Rattle.px_link.proofs.Linking.{linked_formed, linked_given, of_linked}
 use Rattle.px_link.proofs.linked.link.Goals as goal
 
 pub returns-in_err-entry-clause-fault : goal.returns-in_err-entry-clause-fault
@@ -21,8 +22,8 @@ returns-clause-well_formed c =
     let found = c.in_ok-entry.ensures in
     of_linked IsWellFormed c.args.meta.now c.args.image.now c.as_bytes.result.now c.linked.result (linked_formed c.args.meta.now c.args.image.now c.as_bytes.result.now) (all.program c.as_bytes.result.now found.entry)
 
-pub returns-clause-few : goal.returns-clause-few
-returns-clause-few c =
+pub returns-clause-arguments : goal.returns-clause-arguments
+returns-clause-arguments c =
     let all = c.linked.ensures in
     let found = c.in_ok-entry.ensures in
-    of_linked (λ program. length (arguments_of program) ≤ 16) c.args.meta.now c.args.image.now c.as_bytes.result.now c.linked.result (linked_few c.args.meta.now c.args.image.now c.as_bytes.result.now) (all.program c.as_bytes.result.now found.entry)
+    of_linked (λ program. AreGiven program.types (arguments_of program)) c.args.meta.now c.args.image.now c.as_bytes.result.now c.linked.result (linked_given c.args.meta.now c.args.image.now c.as_bytes.result.now) (all.program c.as_bytes.result.now found.entry)

@@ -18,5 +18,5 @@ code_of-requires-clause-methods c =
 pub loop-raw-preserved : goal.loop-raw-preserved
 loop-raw-preserved c =
     let pushed = c.in_ok-push.ensures in
-    zipped_more (IsInstr c.args.tokens.now (record { keys = c.args.types.now.keys; rows = c.args.rows.now.keys }) c.args.forms.now) c.args.raws.now c.loop-raw.raw-index c.raw-item.result c.loop-raw.instrs c.push.new.self _
-    c.loop-raw.invariant c.loop-raw-test.true c.raw-item.is (record { offset = refl; next = refl; code = c.in_ok-code_of.ensures }) pushed.ok
+    zipped_more (IsInstr c.args.tokens.now (record { keys = c.args.types.now.keys; rows = c.args.rows.now.keys }) c.args.forms.now) c.args.raws.now c.loop-raw.raw-index c.raw-item.result c.loop-raw.instrs.items c.push.new.self.items _
+    c.loop-raw.invariant c.loop-raw-test.true c.raw-item.is (record { offset = refl; next = refl; code = c.in_ok-code_of.ensures }) pushed.items

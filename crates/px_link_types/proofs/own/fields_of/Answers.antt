@@ -1,7 +1,7 @@
 use Rattle.std.proofs.Common.{◌≤◌, ◌+◌, sym, ap, ◌∙◌, arith}
 use Rattle.px_meta.specs.Members.{IsField, list_end, list_start}
 use Rattle.px_meta.specs.Rows.{IsRow, count_of, fields}
-use Rattle.px_link_types.proofs.Listed.{found_all, found_first, found_here, found_past, item_of}
+use Rattle.px_link_types.proofs.Listed.{found_all, found_first, found_here, found_past, item_at}
 use Rattle.px_link_types.proofs.own.fields_of.Goals as goal
 use Rattle.px_link_types.proofs.own.fields_of.Goals.{then-is_asked+in_ok-push, else-is_asked}
 
@@ -18,11 +18,11 @@ loop-field-preserved c =
     let count = ap (λ v. count_of v fields) c.tables-tables.ensures.same in
     let some : 1 ≤ field = omega (arith, c.max.ensures, c.min-field.ensures, c.loop-field.auto.field, c.loop-field-test.true) in
     let is_row : IsRow v fields field = record { some = some; few = omega (arith, count, c.min-last.ensures, c.rows.ensures.rows, c.from.ensures, c.loop-field-test.true) } in
-    let item = item_of IsField v fields field c.fields-fields.result.now c.index-fields-field.result c.fields-fields.ensures is_row c.index-fields-field.is in
+    let item = item_at IsField v fields field c.fields-fields.result.now _ c.fields-fields.ensures is_row in
     let asked = sym c.is_asked.ensures in
     elim c.if-is_asked.branch [
-      | then-is_asked+in_ok-push w ↦ found_here v c.args.row c.args.is_static field c.loop-field.rows.items c.if-is_asked.rows.items c.index-fields-field.result some item c.loop-field.invariant (asked ∙ w.if-is_asked.true) (let pushed = w.in_ok-push.ensures in ap (λ l. l.items) w.rows-is ∙ pushed.items)
-      | else-is_asked w ↦ found_past v c.args.row c.args.is_static field c.loop-field.rows.items c.if-is_asked.rows.items c.index-fields-field.result some item c.loop-field.invariant (asked ∙ w.if-is_asked.false) (ap (λ l. l.items) w.rows-is)
+      | then-is_asked+in_ok-push w ↦ found_here v c.args.row c.args.is_static field c.loop-field.rows.items c.if-is_asked.rows.items _ some item c.loop-field.invariant (asked ∙ w.if-is_asked.true) (let pushed = w.in_ok-push.ensures in ap (λ l. l.items) w.rows-is ∙ pushed.items)
+      | else-is_asked w ↦ found_past v c.args.row c.args.is_static field c.loop-field.rows.items c.if-is_asked.rows.items _ some item c.loop-field.invariant (asked ∙ w.if-is_asked.false) (ap (λ l. l.items) w.rows-is)
     ]
 
 pub returns : goal.returns

@@ -1,4 +1,4 @@
-use Rattle.std.proofs.Common.{sym, subst, true}
+use Rattle.std.proofs.Common.{sym, subst}
 use Rattle.px_meta.specs.Walks.{AreWalked, IsVerdict}
 use Rattle.px_meta.proofs.Walking.{ended, ended_from, gone_on, met_again, over, over_from}
 use Rattle.px_meta.proofs.chain.walk.Goals as goal

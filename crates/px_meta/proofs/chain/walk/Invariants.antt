@@ -1,4 +1,3 @@
-use Rattle.std.proofs.Common.{ℕ}
 use Rattle.std.specs.Prelude.{count_by, is_none}
 use Rattle.px_meta.proofs.Walking.{IsWalking}
 use Rattle.px_meta.proofs.chain.walk.Given as goal

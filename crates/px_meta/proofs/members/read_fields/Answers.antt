@@ -11,16 +11,19 @@ returns-in_err-read-clause-fault c =
     let v = c.args.tables.now in
     let n = c.loop-n.n in
     let p = err_from_is_err_and c.from_residual-in_err-read.result c.from_residual-in_err-read.ensures.1 in
-    rw (p.1, p.2) (table_blamed v fields n c.in_err-read.field-0.0 (sound_to IsField v fields n c.loop-n.fields.items (λ row item is. field_sound v row item is) c.loop-n.invariant) c.in_err-read.ensures.fault)
+    rw (p.1, p.2) (table_blamed v fields n c.in_err-read.field-0.0 (sound_to IsField v fields n c.loop-n.fields.items (λ row item is. field_sound v row item is) c.loop-n.invariant.read) c.in_err-read.ensures.fault)
 
 pub loop-n-preserved : goal.loop-n-preserved
-loop-n-preserved c = first_push IsField c.args.tables.now c.loop-n.n c.loop-n.fields.items _ c.in_ok-read.read c.loop-n.invariant c.in_ok-read.ensures.field c.in_ok-push.ensures.items
+loop-n-preserved c = record {
+  read = first_push IsField c.args.tables.now c.loop-n.n c.loop-n.fields.items _ c.in_ok-read.read c.loop-n.invariant.read c.in_ok-read.ensures.field c.in_ok-push.ensures.items;
+  known = c.in_ok-read.ensures.known;
+}
 
 pub loop-n-init : goal.loop-n-init
 loop-n-init c = search rules
 
 pub returns-clause-fields : goal.returns-clause-fields
-returns-clause-fields c = rows_from_first IsField c.args.tables.now fields c.loop-n.n c.loop-n.fields.items c.loop-n.invariant (omega (arith))
+returns-clause-fields c = rows_from_first IsField c.args.tables.now fields c.loop-n.n c.loop-n.fields.items c.loop-n.invariant.read (omega (arith))
 
 pub returns-in_err-owners-clause-fault : goal.returns-in_err-owners-clause-fault
 returns-in_err-owners-clause-fault c = search rules

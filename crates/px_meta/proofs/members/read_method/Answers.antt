@@ -7,7 +7,7 @@ use Rattle.px_meta.proofs.members.read_method.Goals as goal
 pub returns-in_default-clause-fault : goal.returns-in_default-clause-fault
 returns-in_default-clause-fault c =
     let row = c.args.row in
-    token_blamed c.args.tables.now methods row c.at.result (λ e. omega arith) c.at.ensures (Method row c.requires.row (method_unnamed _ row c.cell_of.result c.cell_of.ensures c.in_default.ensures))
+    token_blamed c.args.tables.now methods row c.at.result (λ e. omega arith) c.at.ensures (Method row c.requires.row (method_unnamed _ row c.cell_of.result c.cell_of.ensures (rw c.in_default.is at c.in_ok-name.ensures.text)))
 
 pub returns-in_default-2-clause-fault : goal.returns-in_default-2-clause-fault
 returns-in_default-2-clause-fault c =

@@ -8,4 +8,4 @@ pub returns-in-None-clause-fault : goal.returns-in-None-clause-fault
 returns-in-None-clause-fault c =
     let row = c.args.row in
     token_blamed c.args.tables.now type_specs row c.at.result (λ e. omega arith) c.at.ensures
-    (TypeSpec row c.requires (spec_unsigned c.args.tables.now row c.cell_of.result c.in_ok-sig.field-0 c.cell_of.ensures c.in_ok-sig.ensures.sig c.in-None.is))
+    (TypeSpec row c.requires.row (spec_unsigned c.args.tables.now row c.cell_of.result c.in_ok-sig.field-0 c.cell_of.ensures c.in_ok-sig.ensures.sig c.in-None.is))

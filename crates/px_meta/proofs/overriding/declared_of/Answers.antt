@@ -1,4 +1,4 @@
-use Rattle.std.proofs.Common.{◌≡◌, ◌+◌, ◌-◌, Some, ap, sym, subst, ◌∙◌, length, arith}
+use Rattle.std.proofs.Common.{◌≡◌, ◌+◌, ◌-◌, ap, sym, subst, ◌∙◌, length, arith}
 use Rattle.px_meta.proofs.Rows.{written}
 use Rattle.px_meta.proofs.Saying.{AreDeclared, all_declared, put_declared, skip_declared}
 use Rattle.px_meta.proofs.overriding.declared_of.Goals as goal

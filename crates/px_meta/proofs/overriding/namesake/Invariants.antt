@@ -1,4 +1,4 @@
-use Rattle.std.proofs.Common.{ℕ, ◌<◌, ◌≤◌}
+use Rattle.std.proofs.Common.{ℕ, ◌<◌}
 use Rattle.px_meta.specs.Members.{IsMethod}
 use Rattle.px_meta.specs.Overriding.{IsNamesake}
 use Rattle.px_meta.proofs.overriding.namesake.Given as goal

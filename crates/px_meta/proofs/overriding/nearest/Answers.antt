@@ -1,4 +1,4 @@
-use Rattle.std.proofs.Common.{sym, ◌∙◌, ◌≢◌, subst, arith}
+use Rattle.std.proofs.Common.{sym, ◌∙◌, subst, arith}
 use Rattle.px_meta.specs.Overriding.{Derives}
 use Rattle.px_meta.proofs.Nearest.{search_begun, search_derives, search_ended, search_found, search_more, search_over}
 use Rattle.px_meta.proofs.Verdicts.{base_stays}

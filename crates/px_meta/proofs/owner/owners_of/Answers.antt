@@ -1,4 +1,4 @@
-use Rattle.std.proofs.Common.{◌≡◌, ◌+◌, ◌-◌, ◌<◌, ◌≤◌, ◌⊎◌, ap, sym, subst, ◌∙◌, length, arith}
+use Rattle.std.proofs.Common.{◌≡◌, ◌+◌, ◌-◌, ap, sym, subst, ◌∙◌, length, arith}
 use Rattle.px_meta.proofs.Behind.{AreSet, all_set, more_set}
 use Rattle.px_meta.proofs.Rows.{written}
 use Rattle.px_meta.proofs.owner.owners_of.Goals as goal

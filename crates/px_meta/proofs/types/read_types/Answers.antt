@@ -1,4 +1,4 @@
-use Rattle.std.proofs.Common.{◌≡◌, ◌+◌, ℕ, List, Option, false, subst, sym, ◌∙◌, arith}
+use Rattle.std.proofs.Common.{false, subst, sym, ◌∙◌, arith}
 use Rattle.std.proofs.lemmas.List.{get_or_read}
 use Rattle.std.proofs.lemmas.Result.{err_from_is_err_and}
 use Rattle.px_meta.specs.Chains.{base_in, outer_of}
@@ -54,6 +54,7 @@ loop-n-preserved c =
     record {
       read = first_push IsType v c.loop-n.n c.loop-n.types.items _ c.in_ok-read.read c.loop-n.invariant.read c.in_ok-read.ensures.read c.in_ok-push.ensures.items;
       ends = ends_more v c.loop-n.n c.loop-n.invariant.ends c.in_ok-read.ensures.end;
+      known = c.in_ok-read.ensures.known;
       sound = sound_more v type_defs c.loop-n.n c.loop-n.invariant.sound c.in_ok-read.ensures.sound;
     }
 

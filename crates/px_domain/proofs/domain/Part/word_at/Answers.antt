@@ -1,9 +1,6 @@
-use Rattle.std.proofs.Common.{◌≡◌, ℕ, ◌+◌, arith, ap, sym, ◌∙◌, refl, ℤ, pos, ◌+ℤ◌, ◌≤ℤ◌}
+use Rattle.std.proofs.Common.{arith}
 use Rattle.std.proofs.lemmas.Int.{ints}
-use Rattle.px_program.specs.declared.program.Place.{Place}
-use Rattle.px_domain.specs.Place.{word_of}
-use Rattle.px_domain.specs.Domain.{place_of, low_of}
-use Rattle.px_domain.proofs.Widths.{short_range, size_small, within_range, word_at_is}
+use Rattle.px_domain.proofs.Widths.{short_range, size_small, within_range}
 use Rattle.px_domain.proofs.domain.Part.word_at.Goals as goal
 
 pub overflow_cast-number : goal.overflow_cast-number

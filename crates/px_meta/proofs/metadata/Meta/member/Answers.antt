@@ -1,10 +1,9 @@
 use Rattle.std.proofs.Common.{ap, subst, sym, ◌∙◌}
-use Rattle.std.specs.Prelude.{MatchOption}
 use Rattle.px_blobs.specs.Items.{IsStringAt}
 use Rattle.px_meta.specs.Members.{IsField, IsMethod, owner_of}
 use Rattle.px_meta.specs.Resolved.{IsReference}
 use Rattle.px_meta.specs.Rows.{cell, fields, member_refs, methods}
-use Rattle.px_meta.specs.Tokens.{IsMember, Names, NamesMember, parent_by, parent_of}
+use Rattle.px_meta.specs.Tokens.{IsMember, NamesMember, parent_by, parent_of}
 use Rattle.px_meta.specs.declared.meta.Member.TheVariants.{External, Field, Method}
 use Rattle.px_meta.proofs.Naming.{field_unowned, item_named, method_unowned, reference_readable, same_sig}
 use Rattle.px_meta.proofs.metadata.Meta.member.Goals as goal
@@ -52,9 +51,9 @@ returns c =
     let row = c.in_ok-row.row in
     let is = c.in_ok-row.ensures in
     let r = item_named IsReference v member_refs at row c.self.inside.references.items c.index-2.result.now c.self.invariant.references is.0 is.1 c.index-2.ensures in
-    subst (λ v. IsMember v at (External c.parent_token-owner.result c.in_ok-name.name c.as_ref-sig.result)) c.self.view_is (
+    subst (λ v. IsMember v at (External c.parent_token-owner.result c.in_ok-name.name c.lent-sig.result)) c.self.view_is (
       is.1,
       c.parent_token-owner.ensures ∙ ap parent_by c.cell_of.ensures ∙ ap (λ n. parent_of v n) is.0,
       subst (λ n. IsStringAt v.strings n c.in_ok-name.name.now) (c.cell_of-2.ensures ∙ ap (λ n. cell v member_refs n 1) is.0) c.in_ok-name.ensures,
-      same_sig (λ s. s.now) _ c.as_ref-sig.result c.index-2.result.now c.as_ref-sig.ensures.value r.sig_is,
+      same_sig (λ s. s.now) _ c.lent-sig.result c.index-2.result.now c.lent-sig.ensures r.sig_is,
     )

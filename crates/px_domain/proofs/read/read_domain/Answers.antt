@@ -1,8 +1,0 @@
-use Rattle.px_domain.proofs.ReadBack.{places_from_gives, back_from_gives}
-use Rattle.px_domain.proofs.read.read_domain.Goals as goal
-
-pub returns-clause-places : goal.returns-clause-places
-returns-clause-places c = places_from_gives c.read_parts.result c.params_of.result.now _ _ c.params_of.ensures c.read_parts.ensures
-
-pub returns-clause-read_back : goal.returns-clause-read_back
-returns-clause-read_back c = back_from_gives c.read_parts.result c.params_of.result.now _ _ c.params_of.ensures c.read_parts.ensures
