@@ -301,11 +301,17 @@ SHAPES = {shape.__name__: shape for shape in (
     overriding_chain, called_chain, long_signature, deep_fields, deep_references, deep_specs, long_method_name, long_type_name, long_reference_name, long_body,
     many_locals, many_fields, method_impls, long_text, deep_spec_named, one_body)}
 
-if sys.argv[1] == "--list":
-    print("\n".join(SHAPES))
-else:
+
+def main():
+    if sys.argv[1] == "--list":
+        print("\n".join(SHAPES))
+        return
     made = Assembly()
     SHAPES[sys.argv[1]](made, int(float(sys.argv[2]) * 1024 * 1024))
     content = made.file()
     with open(sys.argv[3], "wb") as out:
         out.write(content)
+
+
+if __name__ == "__main__":
+    main()

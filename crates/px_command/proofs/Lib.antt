@@ -1,1 +1,2 @@
+mod Bottoms
 mod Telling

@@ -27,15 +27,15 @@ within program parts bounds [] h = tt
 within program parts bounds (r ∷ records) h = (h.0.within, within program parts bounds records h.1)
 
 pub writable : (bytes : List ℕ) (target : Target) (text : List ℕ) (answer : Answer) → Explains bytes target text answer → IsWritable answer
-writable bytes (targets.Raw params places) text (answers.Found program f) h = within program f.domain f.bounds f.records h.1.sound.stand
-writable bytes (targets.Method name) text (answers.Found program f) h = within program f.domain f.bounds f.records h.3.2.sound.stand
+writable bytes (targets.Raw params places) text (answers.Found program f) h = within program f.domain f.bounds f.records h.1.finds.sound.stand
+writable bytes (targets.Method name) text (answers.Found program f) h = within program f.domain f.bounds f.records h.3.1.finds.sound.stand
 writable bytes target text (answers.Refused why) h = tt
 writable bytes target text answers.Memory h = tt
 
 -- what explains an answer is what its report, or its refusal, promises
 explored : (bytes text : List ℕ) (program : Program) (f : Findings) (target : Target) → Explains bytes target text (answers.Found program f) → Explores bytes target text program f
 explored bytes text program f (targets.Raw params places) h = h
-explored bytes text program f (targets.Method name) h = (h.0, h.1, h.2, h.3.0, h.3.1, h.3.2)
+explored bytes text program f (targets.Method name) h = (h.0, h.1, h.2, h.3.0, h.3.1)
 
 refused : (bytes text : List ℕ) (why : Refusal) (target : Target) → Explains bytes target text (answers.Refused why) → Refuses bytes target text why
 refused bytes text why (targets.Raw params places) h = h

@@ -1,5 +1,6 @@
 -- The one line of every answer that is no report.
-use Rattle.std.specs.Prelude.{ℕ, List, [], ◌++◌, codes, decimal}
+use Rattle.std.specs.Prelude.{ℕ, List, [], ◌∷◌, ◌++◌, codes, decimal}
+use Rattle.std.specs.List.{flat_map}
 use Rattle.px_code.specs.declared.body.BodyKind.{BodyKind}
 use Rattle.px_code.specs.declared.body.BodyKind.TheVariants as body_kinds
 use Rattle.px_io.specs.Pieces.{name_text}
@@ -9,6 +10,10 @@ use Rattle.px_pe.specs.declared.fault.PeKind.{PeKind}
 use Rattle.px_pe.specs.declared.fault.PeKind.TheVariants as pe_kinds
 use Rattle.px_tables.specs.declared.fault.TableKind.{TableKind}
 use Rattle.px_tables.specs.declared.fault.TableKind.TheVariants as table_kinds
+use Rattle.px_verify_flow.specs.declared.fault.VerifyKind.{VerifyKind}
+use Rattle.px_verify_flow.specs.declared.fault.VerifyKind.TheVariants as verify_kinds
+use Rattle.px_verify_kinds.specs.declared.kind.Kind.{Kind}
+use Rattle.px_verify_kinds.specs.declared.kind.Kind.TheVariants as kinds
 use Rattle.px_command_answers.specs.declared.answer.Refusal.{Refusal}
 use Rattle.px_command_answers.specs.declared.answer.Refusal.TheVariants as refusals
 
@@ -82,6 +87,38 @@ body_line kind at method = codes "refused body " ++ (body_kind_text kind ++ (cod
 unfoldable pub raw_locals_line : List ℕ
 raw_locals_line = codes "refused method RawLocals\n" ++ []
 
+abbrev pub verify_kind_text : VerifyKind → List ℕ
+verify_kind_text verify_kinds.Underflow = codes "Underflow"
+verify_kind_text verify_kinds.Mismatch = codes "Mismatch"
+verify_kind_text verify_kinds.BadRet = codes "BadRet"
+verify_kind_text verify_kinds.BadLeave = codes "BadLeave"
+verify_kind_text verify_kinds.Depth = codes "Depth"
+verify_kind_text verify_kinds.FallsOff = codes "FallsOff"
+verify_kind_text verify_kinds.BadMerge = codes "BadMerge"
+
+-- what a place of the stack holds
+abbrev pub kind_text : Kind → List ℕ
+kind_text kinds.I = codes "i"
+kind_text kinds.L = codes "l"
+kind_text kinds.N = codes "n"
+kind_text (kinds.Ref type) = codes "r"
+kind_text kinds.Null = codes "null"
+
+-- a further kind
+abbrev pub other_text : Kind → List ℕ
+other_text kind = codes "," ++ (kind_text kind ++ [])
+
+-- the kinds, the bottom first, or `-` where there are none
+abbrev pub stack_text : List Kind → List ℕ
+stack_text [] = codes "-"
+stack_text (kind ∷ above) = kind_text kind ++ flat_map other_text above
+
+unfoldable pub verify_front : VerifyKind → ℕ → ℕ → List ℕ
+verify_front kind method offset = codes "refused verify " ++ (verify_kind_text kind ++ (codes " method " ++ (decimal method ++ (codes " offset " ++ (decimal offset ++ (codes " stack " ++ []))))))
+
+abbrev pub verify_line : ℕ → ℕ → List Kind → VerifyKind → List ℕ
+verify_line method offset stack kind = verify_front kind method offset ++ (stack_text stack ++ codes "\n")
+
 unfoldable pub domain_line : ℕ → List ℕ
 domain_line at = codes "refused domain at " ++ (decimal at ++ (codes "\n" ++ []))
 
@@ -100,5 +137,6 @@ refusal_line (refusals.BadParameter number) = bad_parameter_line number
 refusal_line refusals.NoMaker = no_maker_line
 refusal_line (refusals.Body kind at method) = body_line kind at method
 refusal_line refusals.RawLocals = raw_locals_line
+refusal_line (refusals.Verify method offset stack kind) = verify_line method offset stack kind
 refusal_line (refusals.Domain at) = domain_line at
 refusal_line refusals.Unsupported = unsupported_line

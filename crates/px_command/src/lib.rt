@@ -3,6 +3,7 @@
 
 mod put;
 mod refusals;
+mod stacks;
 mod top;
 
 pub use top::{Status, pex_one};

@@ -51,7 +51,7 @@ fn put_answer<O: Sink>(out: &mut O, input: &Input, answer: &Answer) -> Result<()
 {
     match answer {
         Answer::Found(program, findings) => write_report(program.program(), input, findings, out),
-        Answer::Refused(why) => put_refusal(out, *why),
+        Answer::Refused(why) => put_refusal(out, why),
         Answer::Memory => Ok(()),
     }
 }

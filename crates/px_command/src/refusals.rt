@@ -3,6 +3,7 @@ ghost use Rattle.std.specs.Prelude.{◌≡◌};
 ghost use Rattle.px_io.specs.Puts.{Puts};
 ghost use Rattle.px_command.specs.Lines.{ambiguous_line, bad_parameter_line, body_kind_text, body_line, domain_line, meta_kind_text, meta_line, no_body_line, no_maker_line, no_method_line, pe_kind_text, pe_line, raw_locals_line, refusal_line, table_kind_text, tables_line, unsupported_line};
 
+use crate::stacks::put_verify;
 use px_code::BodyKind;
 use px_command_answers::Refusal;
 use px_io::Piece::{Number, Text};
@@ -188,21 +189,27 @@ fn put_unsupported<O: Sink>(out: &mut O) -> Result<(), Stopped>
 }
 
 /// Writes the line of a refusal.
-pub fn put_refusal<O: Sink>(out: &mut O, why: Refusal) -> Result<(), Stopped>
-    ensures { Puts O.written O.faults out.old (refusal_line why) out.new result }
+pub fn put_refusal<O: Sink>(out: &mut O, why: &Refusal) -> Result<(), Stopped>
+    ensures { Puts O.written O.faults out.old (refusal_line why.now) out.new result }
 {
     match why {
         Refusal::Pe(fault) => put_pe(out, fault.kind, fault.at),
         Refusal::Tables(fault) => put_tables(out, fault.kind, fault.at),
-        Refusal::Meta(kind, token) => put_meta(out, kind, token),
+        Refusal::Meta(kind, token) => put_meta(out, *kind, *token),
         Refusal::NoMethod => put_no_method(out),
         Refusal::Ambiguous => put_ambiguous(out),
         Refusal::NoBody => put_no_body(out),
-        Refusal::BadParameter(number) => put_bad_parameter(out, number),
+        Refusal::BadParameter(number) => put_bad_parameter(out, *number),
         Refusal::NoMaker => put_no_maker(out),
-        Refusal::Body(kind, at, method) => put_body(out, kind, at, method),
+        Refusal::Body(kind, at, method) => put_body(out, *kind, *at, *method),
         Refusal::RawLocals => put_raw_locals(out),
-        Refusal::Domain(at) => put_domain_fault(out, at),
+        Refusal::Verify {
+            method,
+            offset,
+            stack,
+            kind,
+        } => put_verify(out, *kind, *method, *offset, stack.as_slice()),
+        Refusal::Domain(at) => put_domain_fault(out, *at),
         Refusal::Unsupported => put_unsupported(out),
     }
 }

@@ -1,11 +1,12 @@
 -- What the bytes of a file and the text of a domain give, before anything is written.
-use Rattle.std.specs.Prelude.{◌≡◌, ◌≢◌, ℕ, ◌<◌, List, length, take, drop, Option, Some, None, Ok, Err, ◌⊎◌, map, true, false, Bool, ◌&&◌, nat_le}
+use Rattle.std.specs.Prelude.{◌≡◌, ◌≢◌, ℕ, ◌<◌, List, length, reverse, take, drop, Option, Some, None, Ok, Err, ◌⊎◌, map, true, false, Bool, ◌&&◌, nat_le}
 use Rattle.std.specs.List.{list_all}
 use Rattle.px_code.specs.declared.body.Body.{Body}
 use Rattle.px_code.specs.declared.body.BodyFault.TheVariants as body_faults
 use Rattle.px_code.specs.Body.{body_of}
 use Rattle.px_domain.specs.declared.domain.Part.{Part}
-use Rattle.px_domain.specs.Domain.{size_of}
+use Rattle.px_domain.specs.Domain.{ranges_of, size_of}
+use Rattle.px_domain.specs.Givens.{givens_of}
 use Rattle.px_domain.specs.Grammar.{domain_of}
 use Rattle.px_link.specs.declared.fault.LinkFault.TheVariants as faults
 use Rattle.px_link.specs.Link.{Blames, Reads}
@@ -13,7 +14,6 @@ use Rattle.px_link.specs.Raw.{ReadsRaw}
 use Rattle.px_meta.specs.Faults.{IsFaultless, IsFirstFault}
 use Rattle.px_pe.specs.Image as pe
 use Rattle.px_pe.specs.Image.{image_of}
-use Rattle.px_program.specs.Arguments.{arguments_of, is_integer}
 use Rattle.px_program.specs.Formed.{entry_of}
 use Rattle.px_program.specs.declared.program.Method.{Method}
 use Rattle.px_program.specs.declared.program.Place.{Place}
@@ -24,7 +24,8 @@ use Rattle.px_program.specs.declared.record.Limits.{Limits}
 use Rattle.px_tables.specs.Metadata.{View, metadata_of}
 use Rattle.px_tests.specs.declared.findings.Findings.{Findings}
 use Rattle.px_tests.specs.Sound.{Sound}
-use Rattle.px_verify.specs.Simple.{fault_of}
+use Rattle.px_simple.specs.Simple.{fault_of}
+use Rattle.px_verify.specs.Verdict.{IsRefused, IsTyped}
 use Rattle.px_command_answers.specs.declared.answer.Answer.{Answer}
 use Rattle.px_command_answers.specs.declared.answer.Answer.TheVariants as answers
 use Rattle.px_command_answers.specs.declared.answer.Refusal.{Refusal}
@@ -39,47 +40,11 @@ abbrev pub default_limits : Limits
 default_limits = record { runs = 1000; spent = 64; conflicts = 1000 }
 
 -- The findings are a sound report of the program under the text's domain and the defaults.
-pub record Finds (program : Program) (places : List Place) (text : List ℕ) (f : Findings) : Type 0 where
-  pub domain : domain_of places text ≡ Ok f.domain
+pub record Finds (program : Program) (text : List ℕ) (f : Findings) : Type 0 where
+  pub domain : domain_of (givens_of program) text ≡ Ok f.domain
   pub bounds : f.bounds ≡ default_bounds
   pub limits : f.limits ≡ default_limits
   pub sound : Sound program f
-
--- The program, or the domain, is of a form that isn't explored yet: the program isn't simple, or there are more than 1,000 tuples.
-pub record IsBeyond (program : Program) (places : List Place) (text : List ℕ) : Type 0 where
-  pub parts : List Part
-  pub domain : domain_of places text ≡ Ok parts
-  pub beyond : ((at : ℕ) × (fault_of program ≡ Some at)) ⊎ (1000 < size_of parts)
-
--- why a program that was linked is refused
-abbrev pub RefusesProgram : Program → List Place → List ℕ → Refusal → Type 0
-RefusesProgram program places text (refusals.Domain at) = domain_of places text ≡ Err at
-RefusesProgram program places text refusals.Unsupported = IsBeyond program places text
-RefusesProgram program places text _ = ⊥
-
--- why an answer comes for a program that was linked
-abbrev pub HasCause : Program → List Place → List ℕ → Answer → Type 0
-HasCause program places text (answers.Found linked f) = (linked ≡ program) × Finds program places text f
-HasCause program places text (answers.Refused why) = RefusesProgram program places text why
-HasCause program places text answers.Memory = Unit {0}
-
--- no parameter of a raw method is an array
-abbrev pub no_arrays : List Place → List Bool
-no_arrays places = map (λ place. false) places
-
--- why the bytes of a raw body are refused: the first of these that fits
-abbrev pub RefusesRaw : List ℕ → List Place → List ℕ → Refusal → Type 0
-RefusesRaw bytes places text (refusals.Body kind at method) = (body_of bytes ≡ Err (kind, at)) × (method ≡ 0)
-RefusesRaw bytes places text refusals.RawLocals = (body : Body) × (body_of bytes ≡ Ok body) × (body.locals_token ≢ 0)
-RefusesRaw bytes places text (refusals.Domain at) = (program : Program) × ReadsRaw bytes places (no_arrays places) program × (domain_of places text ≡ Err at)
-RefusesRaw bytes places text refusals.Unsupported = (program : Program) × ReadsRaw bytes places (no_arrays places) program × IsBeyond program places text
-RefusesRaw bytes places text _ = ⊥
-
--- why an answer comes for the bytes of a raw body, with parameters of these places
-abbrev pub ExplainsRaw : List ℕ → List Place → List ℕ → Answer → Type 0
-ExplainsRaw bytes places text (answers.Found program f) = ReadsRaw bytes places (no_arrays places) program × Finds program places text f
-ExplainsRaw bytes places text (answers.Refused why) = RefusesRaw bytes places text why
-ExplainsRaw bytes places text answers.Memory = Unit {0}
 
 abbrev pub is_int32 : Place → Bool
 is_int32 places.I4 = true
@@ -97,23 +62,50 @@ is_explored_method (Some method) = method.is_static && list_all is_int32 method.
 abbrev pub is_explored : Program → Bool
 is_explored program = is_explored_method (entry_of program)
 
--- the text of a domain is looked at where all that a run is given are integers
-abbrev pub is_read : Program → Bool
-is_read program = list_all is_integer (arguments_of program)
+-- the entry is of another form, or isn't simple
+abbrev pub IsOther : Program → Type 0
+IsOther program = (is_explored program ≡ false) ⊎ ((at : ℕ) × (fault_of program ≡ Some at))
 
--- the program's entry is of another form, and the text, where it is looked at, is in form
-pub record IsOtherForm (program : Program) (text : List ℕ) : Type 0 where
-  pub form : is_explored program ≡ false
-  pub in_form : is_read program ≡ true → (parts : List Part) × (domain_of (arguments_of program) text ≡ Ok parts)
+-- The program, or the domain, is of a form that isn't explored yet: the domain has more than 1,000 tuples.
+pub record IsUnsupported (program : Program) (text : List ℕ) : Type 0 where
+  pub parts : List Part
+  pub domain : domain_of (givens_of program) text ≡ Ok parts
+  pub beyond : IsOther program ⊎ (1000 < size_of (ranges_of parts))
 
--- the text of the domain has its first fault there
-pub record IsMisread (program : Program) (text : List ℕ) (at : ℕ) : Type 0 where
-  pub read : is_read program ≡ true
-  pub fault : domain_of (arguments_of program) text ≡ Err at
+-- The program is typed and of the form that is explored, and the findings are its report.
+pub record Explored (program : Program) (text : List ℕ) (f : Findings) : Type 0 where
+  pub typed : IsTyped program
+  pub form : is_explored program ≡ true
+  pub finds : Finds program text f
 
--- the method, its program or the domain is of a form that isn't explored yet
-abbrev pub IsUnsupported : Program → List ℕ → Type 0
-IsUnsupported program text = IsOtherForm program text ⊎ ((is_explored program ≡ true) × IsBeyond program (arguments_of program) text)
+-- why a program that was linked is refused: what its typing refuses first, then the text of the domain, and then its form
+abbrev pub RefusesProgram : Program → List ℕ → Refusal → Type 0
+RefusesProgram program text (refusals.Verify method offset stack kind) = IsRefused program method offset (reverse stack) kind
+RefusesProgram program text (refusals.Domain at) = IsTyped program × (domain_of (givens_of program) text ≡ Err at)
+RefusesProgram program text refusals.Unsupported = IsTyped program × IsUnsupported program text
+RefusesProgram program text _ = ⊥
+
+-- why an answer comes for a program that was linked
+abbrev pub HasCause : Program → List ℕ → Answer → Type 0
+HasCause program text (answers.Found linked f) = (linked ≡ program) × Explored program text f
+HasCause program text (answers.Refused why) = RefusesProgram program text why
+HasCause program text answers.Memory = Unit {0}
+
+-- no parameter of a raw method is an array
+abbrev pub no_arrays : List Place → List Bool
+no_arrays places = map (λ place. false) places
+
+-- why the bytes of a raw body are refused: the first of these that fits
+abbrev pub RefusesRaw : List ℕ → List Place → List ℕ → Refusal → Type 0
+RefusesRaw bytes places text (refusals.Body kind at method) = (body_of bytes ≡ Err (kind, at)) × (method ≡ 0)
+RefusesRaw bytes places text refusals.RawLocals = (body : Body) × (body_of bytes ≡ Ok body) × (body.locals_token ≢ 0)
+RefusesRaw bytes places text why = (program : Program) × ReadsRaw bytes places (no_arrays places) program × RefusesProgram program text why
+
+-- why an answer comes for the bytes of a raw body, with parameters of these places
+abbrev pub ExplainsRaw : List ℕ → List Place → List ℕ → Answer → Type 0
+ExplainsRaw bytes places text (answers.Found program f) = ReadsRaw bytes places (no_arrays places) program × Explored program text f
+ExplainsRaw bytes places text (answers.Refused why) = RefusesRaw bytes places text why
+ExplainsRaw bytes places text answers.Memory = Unit {0}
 
 -- why a method of resolved metadata is refused, by its name: the first of these that fits
 abbrev pub RefusesNamed : View → pe.View → List ℕ → List ℕ → Refusal → Type 0
@@ -123,13 +115,11 @@ RefusesNamed v image name text refusals.NoBody = Blames v image name faults.NoBo
 RefusesNamed v image name text (refusals.BadParameter number) = Blames v image name (faults.BadParameter number)
 RefusesNamed v image name text refusals.NoMaker = Blames v image name faults.NoMaker
 RefusesNamed v image name text (refusals.Body kind at method) = Blames v image name (faults.BadBody (body_faults.Bad kind at) method)
-RefusesNamed v image name text (refusals.Domain at) = (program : Program) × Reads v image name program × IsMisread program text at
-RefusesNamed v image name text refusals.Unsupported = (program : Program) × Reads v image name program × IsUnsupported program text
-RefusesNamed v image name text _ = ⊥
+RefusesNamed v image name text why = (program : Program) × Reads v image name program × RefusesProgram program text why
 
 -- why an answer comes for a method of resolved metadata, by its name
 abbrev pub ExplainsNamed : View → pe.View → List ℕ → List ℕ → Answer → Type 0
-ExplainsNamed v image name text (answers.Found program f) = Reads v image name program × (is_explored program ≡ true) × Finds program (arguments_of program) text f
+ExplainsNamed v image name text (answers.Found program f) = Reads v image name program × Explored program text f
 ExplainsNamed v image name text (answers.Refused why) = RefusesNamed v image name text why
 ExplainsNamed v image name text answers.Memory = Unit {0}
 
@@ -162,9 +152,9 @@ ExplainsMethod bytes name text answers.Memory = Unit {0}
 
 -- the findings are a sound report of the program that the bytes of a file stand for, with what is explored of the file
 abbrev pub Explores : List ℕ → Target → List ℕ → Program → Findings → Type 0
-Explores bytes (targets.Raw params places) text program f = ReadsRaw bytes places.now (no_arrays places.now) program × Finds program places.now text f
+Explores bytes (targets.Raw params places) text program f = ReadsRaw bytes places.now (no_arrays places.now) program × Explored program text f
 Explores bytes (targets.Method name) text program f =
-    (image : pe.View) × (v : View) × IsAssembly bytes image v × Reads v image name.now program × (is_explored program ≡ true) × Finds program (arguments_of program) text f
+    (image : pe.View) × (v : View) × IsAssembly bytes image v × Reads v image name.now program × Explored program text f
 
 -- why the bytes of a file are refused, with what would be explored of it
 abbrev pub Refuses : List ℕ → Target → List ℕ → Refusal → Type 0

@@ -1,16 +1,15 @@
 // What the bytes of an assembly give, with a method by its name.
-ghost use Rattle.std.specs.Prelude.{◌≡◌, ◌≢◌, ◌<◌, ◌≤◌, ◌^◌, ℕ, List, Ok, true, length};
+ghost use Rattle.std.specs.Prelude.{◌≡◌, ◌≢◌, ◌<◌, ◌≤◌, ◌^◌, ℕ, List, Ok, length};
 ghost use Rattle.px_code.specs.declared.body.BodyFault.TheVariants as body_faults;
-ghost use Rattle.px_program.specs.Arguments.{arguments_of};
+ghost use Rattle.px_program.specs.Arguments.{AreGiven, arguments_of};
 ghost use Rattle.px_program.specs.Formed.{IsWellFormed};
 ghost use Rattle.px_link.specs.Link.{Blames, Reads};
 ghost use Rattle.px_pe.specs.Image.{image_of};
 ghost use Rattle.px_pe.specs.Image as pe;
 ghost use Rattle.px_tables.specs.Metadata.{View, metadata_of};
-ghost use Rattle.px_command_answers.specs.Answers.{ExplainsMethod, ExplainsNamed, IsAssembly, is_explored, metadata_in};
+ghost use Rattle.px_command_answers.specs.Answers.{ExplainsMethod, ExplainsNamed, IsAssembly, metadata_in};
 
 use crate::answer::{Answer, Refusal, told};
-use crate::form::{is_explored, other_form};
 use px_code::BodyFault;
 use px_link::{LinkFault, link};
 use px_meta::{Meta, MetaFault, resolve};
@@ -46,29 +45,14 @@ fn unlinked(fault: LinkFault) -> Answer
     }
 }
 
-// What a program gives over the domain of the text, where it is of the form that is explored.
-#[tactic(auto, using(crate::proofs::Exploring::few, crate::proofs::Exploring::integers))]
-fn explored(alloc: Global, program: Program, text: &str) -> Answer
-    requires formed { IsWellFormed program }
-    requires text { length text.now < 2 ^ 32 }
-    requires form { is_explored program ≡ true }
-    ensures { (v : View) (image : pe.View) (name : List ℕ) → Reads v image name program → ExplainsNamed v image name text.now result }
-{
-    told(alloc, program, text)
-}
-
 // What a linked program gives over the domain of the text.
 fn of_program(alloc: Global, program: Program, text: &str) -> Answer
     requires formed { IsWellFormed program }
     requires text { length text.now < 2 ^ 32 }
-    requires few { length (arguments_of program) ≤ 16 }
+    requires given { AreGiven program.types (arguments_of program) }
     ensures { (v : View) (image : pe.View) (name : List ℕ) → Reads v image name program → ExplainsNamed v image name text.now result }
 {
-    if is_explored(&program) {
-        explored(alloc, program, text)
-    } else {
-        other_form(alloc, &program, text)
-    }
+    told(alloc, program, text)
 }
 
 // What resolved metadata gives.
@@ -108,7 +92,7 @@ fn of_image(alloc: Global, image: &Image, name: &str, text: &str) -> Answer
 }
 
 /// What the bytes of an assembly give, with the method of a name: the first refusal in the order of the image, the tables of its
-/// metadata, their rows, the method, its body, the text of the domain, the form of the method and the size of the domain, or a report.
+/// metadata, their rows, the method, its body, its typing, the text of the domain, the form of the method and the size of the domain, or a report.
 pub fn answer_of_method(alloc: Global, bytes: &[u8], name: &str, text: &str) -> Answer
     requires bytes { length bytes.now < 2 ^ 31 }
     requires text { length text.now < 2 ^ 32 }

@@ -4,6 +4,7 @@ ghost use Rattle.std.specs.List.{AllByRecursion};
 ghost use Rattle.px_code.specs.Body.{IsFormed, body_of};
 ghost use Rattle.px_link.specs.Link.{BlamesRaw};
 ghost use Rattle.px_link.specs.Raw.{program_of};
+ghost use Rattle.px_program.specs.Arguments.{AreGiven, arguments_of};
 ghost use Rattle.px_program.specs.Formed.{IsInteger, IsWellFormed};
 ghost use Rattle.px_command_answers.specs.Answers.{ExplainsRaw, no_arrays};
 
@@ -27,6 +28,7 @@ fn program_of(alloc: Global, body: &Body, places: &[Place]) -> Result<Program, R
     requires integers { AllByRecursion IsInteger places.now }
     ensures program { IfOk result (λ p. p ≡ program_of body.now places.now (no_arrays places.now)) }
     ensures well_formed { IfOk result IsWellFormed }
+    ensures arguments { IfOk result (λ program. AreGiven program.types (arguments_of program)) }
     ensures no_locals { IfOk result (λ _. body.now.locals_token ≡ 0) }
     ensures fault { IfErr result (BlamesRaw body.now) }
 {
@@ -59,7 +61,7 @@ fn linked(alloc: Global, body: &Body, places: &[Place], text: &str) -> Answer
 }
 
 /// What the bytes of a body give, with parameters of these places: the first refusal in the order of the body, its linking,
-/// the text of the domain, the form of the body and the size of the domain, or a report.
+/// its typing, the text of the domain, the form of the body and the size of the domain, or a report.
 pub fn answer_of_raw(alloc: Global, bytes: &[u8], places: &[Place], text: &str) -> Answer
     requires bytes { length bytes.now < 2 ^ 31 }
     requires text { length text.now < 2 ^ 32 }

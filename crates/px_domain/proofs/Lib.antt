@@ -1,6 +1,10 @@
+pub mod Arguments
 pub mod Groups
 pub mod Numerals
 pub mod Ranges
 pub mod ReadBack
 pub mod Tuples
+pub mod Wholes
 pub mod Widths
+pub mod Within
+pub mod Words

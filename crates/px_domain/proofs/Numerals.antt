@@ -15,8 +15,10 @@ use Rattle.std.proofs.lemmas.Str.Ascii.{IsAscii-cons}
 use Rattle.std.proofs.lemmas.Str.Parse.{digit_at}
 use Rattle.px_program.specs.declared.program.Place.{Place}
 use Rattle.px_program.specs.declared.program.Place.TheVariants as places
-use Rattle.px_domain.specs.Place.{low_end, high_end, is_within}
-use Rattle.px_domain.specs.Grammar.{in_range, number_of_text}
+use Rattle.px_domain.specs.declared.range.Range.{Range}
+use Rattle.px_domain.specs.Domain.{IsRange}
+use Rattle.px_domain.specs.Place.{low_end, high_end}
+use Rattle.px_domain.specs.Grammar.{in_range, is_in, number_of_text}
 
 -- the text is a number's decimal, and `parse` reads it
 pub record IsWritten (number : ℤ) (text : List ℕ) : Type 0 where
@@ -66,22 +68,30 @@ within_fits places.N z low high = omega (arith, ints)
 within_fits places.UN z low high = omega (arith, ints)
 within_fits (places.Ref class) z low high = omega (arith, ints)
 
-pub within_ends : (place : Place) (z : ℤ) → is_within place z ≡ true → (low_end place ≤ℤ z) × (z ≤ℤ high_end place)
-within_ends place z is = (grind (arith, ints), grind (arith, ints))
+between : (first low z high last : ℤ) → first ≤ℤ low → low ≤ℤ z → z ≤ℤ high → high ≤ℤ last → (first ≤ℤ z) × (z ≤ℤ last)
+between first low z high last a b c d = (omega (arith, ints), omega (arith, ints))
 
--- a text that `parse` refuses is of no number of a place
-no_number : (place : Place) (text : List ℕ) (z : ℤ) (same within : Bool) → same ≡ bytes_eq (signed_decimal z) text → within ≡ is_within place z
-    → (IsWritten z text → FitsSigned w128 z → ⊥) → in_range place None ≡ in_range place (if same then Some z else None)
-no_number place text z false within same_is within_is refused = refl
-no_number place text z true false same_is within_is refused = ap (λ within. if within then Some z else None) within_is
-no_number place text z true true same_is within_is refused =
-    let ends : (low_end place ≤ℤ z) × (z ≤ℤ high_end place) = within_ends place z (sym within_is) in
-    let fits : FitsSigned w128 z = within_fits place z ends.0 ends.1 in
+pub range_fits : (range : Range) (z : ℤ) → IsRange range → range.low ≤ℤ z → z ≤ℤ range.high → FitsSigned w128 z
+range_fits range z is low high =
+    let ends : (low_end range.place ≤ℤ z) × (z ≤ℤ high_end range.place) = between (low_end range.place) range.low z range.high (high_end range.place) is.0 low high is.2 in
+    within_fits range.place z ends.0 ends.1
+
+pub within_ends : (range : Range) (z : ℤ) → is_in range z ≡ true → (range.low ≤ℤ z) × (z ≤ℤ range.high)
+within_ends range z is = (grind (arith, ints), grind (arith, ints))
+
+-- a text that `parse` refuses is of no number of a range
+no_number : (range : Range) (text : List ℕ) (z : ℤ) (same within : Bool) → IsRange range → same ≡ bytes_eq (signed_decimal z) text → within ≡ is_in range z
+    → (IsWritten z text → FitsSigned w128 z → ⊥) → in_range range None ≡ in_range range (if same then Some z else None)
+no_number range text z false within ranged same_is within_is refused = refl
+no_number range text z true false ranged same_is within_is refused = ap (λ within. if within then Some z else None) within_is
+no_number range text z true true ranged same_is within_is refused =
+    let ends : (range.low ≤ℤ z) × (z ≤ℤ range.high) = within_ends range z (sym within_is) in
+    let fits : FitsSigned w128 z = range_fits range z ranged ends.0 ends.1 in
     let same : signed_decimal z ≡ text = (bytes_eq-Decides (signed_decimal z) text).0 (sym same_is) in
     absurd (refused (subst (λ bs. IsWritten z bs) same (written z fits)) fits)
 
-pub refused_number : (place : Place) (text : List ℕ) → (IsWritten (signed_digits_value 10 text) text → FitsSigned w128 (signed_digits_value 10 text) → ⊥) → in_range place None ≡ in_range place (number_of_text text)
-refused_number place text refused = no_number place text (signed_digits_value 10 text) (bytes_eq (signed_decimal (signed_digits_value 10 text)) text) (is_within place (signed_digits_value 10 text)) refl refl refused
+pub refused_number : (range : Range) (text : List ℕ) → IsRange range → (IsWritten (signed_digits_value 10 text) text → FitsSigned w128 (signed_digits_value 10 text) → ⊥) → in_range range None ≡ in_range range (number_of_text text)
+refused_number range text ranged refused = no_number range text (signed_digits_value 10 text) (bytes_eq (signed_decimal (signed_digits_value 10 text)) text) (is_in range (signed_digits_value 10 text)) ranged refl refl refused
 
 -- what `ok` made None was an error
 pub not_ok : {T E : Type 0} (r : Result T E) (P : T → Type 0) (Q : E → Type 0) → None ≡ result_ok r → MatchResult r P Q → (e : E) × Q e

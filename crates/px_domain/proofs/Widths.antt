@@ -1,12 +1,11 @@
--- How wide the range of a part is.
-use Rattle.std.proofs.Common.{◌≡◌, ℕ, ◌<◌, ◌≤◌, ◌^◌, ◌↔◌, refl, arith, ℤ, pos, ◌+ℤ◌, ◌≤ℤ◌}
+-- How wide a range is.
+use Rattle.std.proofs.Common.{ℕ, ◌<◌, ◌≤◌, ◌^◌, arith, ℤ, pos, ◌+ℤ◌, ◌≤ℤ◌}
 use Rattle.std.proofs.lemmas.Int.{ints}
 use Rattle.px_program.specs.declared.program.Place.{Place}
 use Rattle.px_program.specs.declared.program.Place.TheVariants as places
-use Rattle.px_domain.specs.declared.domain.Part.{Part}
-use Rattle.px_domain.specs.declared.domain.Part.TheVariants.{Scalar}
-use Rattle.px_domain.specs.Place.{low_end, high_end, number_of, word_bits, word_of}
-use Rattle.px_domain.specs.Domain.{IsOf, IsRange, IsShort, high_of, low_of, part_size, place_of, width_of, word_at}
+use Rattle.px_domain.specs.declared.range.Range.{Range}
+use Rattle.px_domain.specs.Place.{low_end, high_end}
+use Rattle.px_domain.specs.Domain.{IsRange, IsShort, range_size, width_of}
 
 short : (place : Place) (low high : ℤ) → low_end place ≤ℤ low → low ≤ℤ high → high ≤ℤ high_end place → IsShort low high
 short places.Bool low high a b c = record { first = omega (arith, ints); order = b; last = omega (arith, ints); few = omega (arith, ints) }
@@ -23,23 +22,18 @@ short places.N low high a b c = record { first = omega (arith, ints); order = b;
 short places.UN low high a b c = record { first = omega (arith, ints); order = b; last = omega (arith, ints); few = omega (arith, ints) }
 short (places.Ref class) low high a b c = record { first = omega (arith, ints); order = b; last = omega (arith, ints); few = omega (arith, ints) }
 
-pub short_range : (part : Part) → IsRange part → IsShort (low_of part) (high_of part)
-short_range (Scalar place low high) range = short place low high range.0 range.1 range.2
+pub short_range : (range : Range) → IsRange range → IsShort range.low range.high
+short_range range is = short range.place range.low range.high is.0 is.1 is.2
 
-pub width_is : (part : Part) → width_of (low_of part) (high_of part) ≡ part_size part
-width_is (Scalar place low high) = refl
-
-pub within_range : (part : Part) (k : ℕ) → IsRange part → k < part_size part → (low_end (place_of part) ≤ℤ (low_of part +ℤ pos k)) × ((low_of part +ℤ pos k) ≤ℤ high_end (place_of part))
-within_range (Scalar place low high) k range less = (omega (arith, ints), omega (arith, ints))
-
-pub is_of : (part : Part) (word : ℕ) → IsOf word part ↔ ((word < 2 ^ word_bits (place_of part)) × (low_of part ≤ℤ number_of (place_of part) word) × (number_of (place_of part) word ≤ℤ high_of part))
-is_of (Scalar place low high) word = ((λ h. h), (λ h. h))
+pub within_range : (range : Range) (k : ℕ) → IsRange range → k < range_size range → (low_end range.place ≤ℤ (range.low +ℤ pos k)) × ((range.low +ℤ pos k) ≤ℤ high_end range.place)
+within_range range k is less =
+    let low : low_end range.place ≤ℤ range.low = is.0 in
+    let order : range.low ≤ℤ range.high = is.1 in
+    let high : range.high ≤ℤ high_end range.place = is.2 in
+    (omega (arith, ints), omega (arith, ints))
 
 few_of : (low high : ℤ) → low ≤ℤ high → IsShort low high → width_of low high ≤ 2 ^ 64
 few_of low high order short = omega (arith, ints, short.few)
 
-pub size_small : (part : Part) → IsRange part → part_size part ≤ 2 ^ 64
-size_small (Scalar place low high) range = few_of low high range.1 (short place low high range.0 range.1 range.2)
-
-pub word_at_is : (part : Part) (k : ℕ) → word_at part k ≡ word_of (place_of part) (low_of part +ℤ pos k)
-word_at_is (Scalar place low high) k = refl
+pub size_small : (range : Range) → IsRange range → range_size range ≤ 2 ^ 64
+size_small range is = few_of range.low range.high is.1 (short_range range is)

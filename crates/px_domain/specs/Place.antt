@@ -1,5 +1,5 @@
 -- The numbers of an integer place: Partition I, 8.2.2 and 12.1.
-use Rattle.std.specs.Prelude.{ℕ, ◌-◌, ◌^◌, Bool, true, false, if◌then◌else◌, ◌&&◌, ℤ, pos, neg_ℤ, int_le}
+use Rattle.std.specs.Prelude.{ℕ, ◌-◌, ◌^◌, Bool, true, false, if◌then◌else◌, ℤ, pos, neg_ℤ}
 use Rattle.std.specs.Int.{Width, w32, w64, cast_signed, cast_unsigned}
 use Rattle.px_program.specs.declared.program.Place.{Place}
 use Rattle.px_program.specs.declared.program.Place.TheVariants as places
@@ -75,7 +75,3 @@ number_of place word = if is_signed place then cast_signed (word_width place) wo
 -- the argument word of a number
 abbrev pub word_of : Place → ℤ → ℕ
 word_of place number = cast_unsigned (word_width place) number
-
--- the number lies in the range of the place
-abbrev pub is_within : Place → ℤ → Bool
-is_within place number = int_le (low_end place) number && int_le number (high_end place)

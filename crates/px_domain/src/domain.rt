@@ -1,135 +1,154 @@
 // Domains and their tuples.
-ghost use Rattle.std.specs.Prelude.{◌≡◌, ◌≤◌, ◌<◌, ◌^◌, ◌↔◌, ℕ, List, IfOk, IsTrue, SomeIff};
+ghost use Rattle.std.specs.Prelude.{◌≡◌, ◌≤◌, ◌<◌, ◌+◌, ◌++◌, ◌∷◌, ◌↔◌, ℕ, List, IfOk, OnOk, IsTrue, SomeIff, length};
 ghost use Rattle.std.specs.List.{AllByRecursion};
-ghost use Rattle.px_domain.specs.Domain.{InDomain, IsOf, IsRange, IsShort, IsTuple, high_of, low_of, part_size, place_of, size_of, tuple_of, width_of, word_at};
+ghost use Rattle.px_domain.specs.Domain.{AreParts, InDomain, IsPart, IsRange, IsTuple, least_words, ranges_of, ranges_of_part, shape_range, size_of, tuple_of, word_count};
 
-use crate::place::{is_word, number_of, word_of};
+use crate::Range;
+use crate::times::push_times;
 use px_program::{Place, Words};
 use sqlite_items::Items;
 use std::alloc::{AllocError, Global};
 use std::marker::Model;
 
-// How many numbers there are from one to another.
-fn width_of(low: i128, high: i128) -> u128
-    requires range { IsShort low high }
-    ensures size { result ≡ width_of low high }
-    ensures some { 0 < result }
-    ensures small { result ≤ 2 ^ 64 }
-{
-    (high - low + 1) as u128
-}
-
 /// What one parameter ranges over.
 #[derive(Clone, Copy, PartialEq, Eq)]
 pub enum Part {
     /// The numbers of an integer place from `low` to `high`, both among them.
-    Scalar { place: Place, low: i128, high: i128 },
+    Scalar {
+        place: Place,
+        low: i128,
+        high: i128,
+    },
+    /// The arrays of such numbers that have from `from` to `to` elements, and `null` where it says so.
+    Array {
+        element: Place,
+        null: bool,
+        from: u32,
+        to: u32,
+        low: i128,
+        high: i128,
+    },
 }
 
 impl Part {
-    // What the part ranges over.
-    fn place(self) -> Place
-        ensures { result ≡ place_of self }
+    /// How many argument words the part has.
+    pub fn word_count(&self) -> u64
+        ensures { result ≡ word_count self.now }
     {
-        let Part::Scalar { place, .. } = self;
-        place
-    }
-
-    // The first number of the part.
-    fn low(self) -> i128
-        ensures { result ≡ low_of self }
-    {
-        let Part::Scalar { low, .. } = self;
-        low
-    }
-
-    // The last number of the part.
-    fn high(self) -> i128
-        ensures { result ≡ high_of self }
-    {
-        let Part::Scalar { high, .. } = self;
-        high
-    }
-
-    // Whether the word is one of the part's.
-    fn has(self, word: u64) -> bool
-        ensures { IsTrue result ↔ IsOf word self }
-    {
-        let Part::Scalar { place, low, high } = self;
-        if !is_word(place, word) {
-            return false;
+        match *self {
+            Part::Scalar { .. } => 1,
+            Part::Array { to, .. } => u64::from(to) + 1,
         }
-        let number = number_of(place, word);
-        low <= number && number <= high
-    }
-
-    // How many words the part has.
-    #[tactic(auto, using(crate::proofs::Widths::short_range, crate::proofs::Widths::width_is))]
-    fn size(self) -> u128
-        requires { IsRange self }
-        ensures size { result ≡ part_size self }
-        ensures some { 0 < result }
-        ensures small { result ≤ 2 ^ 64 }
-    {
-        width_of(self.low(), self.high())
-    }
-
-    // The word of a number within the part.
-    fn word_at(self, number: u128) -> u64
-        requires range { IsRange self }
-        requires less { number < part_size self }
-        ensures { result ≡ word_at self number }
-    {
-        word_of(self.place(), self.low() + number as i128)
     }
 }
 
-/// A range for each parameter of a program's entry, seen as the list of its parts.
-/// Each range is in order and within that of its place.
+// What the number of an array's shape ranges over.
+fn shape_range(null: bool, from: u32, to: u32) -> Range
+    requires order { from ≤ to }
+    requires few { to ≤ 64 }
+    ensures { result ≡ shape_range null from to }
+{
+    let count = if null { to + 2 - from } else { to + 1 - from };
+    Range {
+        place: Place::U4,
+        low: 0,
+        high: i128::from(count - 1),
+    }
+}
+
+// The ranges of a part's words.
+fn push_ranges(ranges: &mut Vec<Range>, part: &Part) -> Result<(), AllocError>
+    requires { IsPart part.now }
+    ensures { OnOk result (ranges.new.items ≡ ranges.old.items ++ ranges_of_part part.now) }
+{
+    match *part {
+        Part::Scalar { place, low, high } => {
+            ranges.push(Range { place, low, high })?;
+            Ok(())
+        }
+        Part::Array {
+            element,
+            null,
+            from,
+            to,
+            low,
+            high,
+        } => {
+            ranges.push(shape_range(null, from, to))?;
+            let place = element;
+            push_times(ranges, Range { place, low, high }, to)
+        }
+    }
+}
+
+fn ranges_of(alloc: Global, parts: &[Part]) -> Result<Vec<Range>, AllocError>
+    requires { AllByRecursion IsPart parts.now }
+    ensures { IfOk result (λ ranges. ranges.items ≡ ranges_of parts.now) }
+{
+    let mut ranges = Vec::new(alloc);
+    for part in parts {
+        push_ranges(&mut ranges, part)?;
+    }
+    Ok(ranges)
+}
+
+/// A part for each parameter of a program's entry, seen as the list of its parts.
+/// Each range is in order and within that of its place, no array has more than 64 elements, and there are at most 256 argument words.
 #[derive(Drop)]
 pub struct Domain {
     parts: Vec<Part>,
+    ranges: Vec<Range>,
 }
 
 impl Model for Domain {
     ghost use Rattle.std.specs.Prelude.{List};
-    ghost use Rattle.std.specs.List.{AllByRecursion};
     ghost use Rattle.px_domain.specs.declared.domain.Part.{Part};
-    ghost use Rattle.px_domain.specs.Domain.{IsRange};
+    ghost use Rattle.px_domain.specs.Domain.{HasRanges};
 
     ghost Value = { List Part };
 
     ghost view = { λ d. d.parts.items };
 
-    ghost invariant = { λ d. AllByRecursion IsRange d.parts.items };
+    ghost invariant = { λ d. HasRanges d.parts.items d.ranges.items };
 }
 
 impl Domain {
-    pub(crate) fn new(parts: Vec<Part>) -> Domain
-        requires { AllByRecursion IsRange parts.items }
-        ensures { result ≡ parts.items }
+    pub(crate) fn new(alloc: Global, parts: Vec<Part>) -> Result<Domain, AllocError>
+        requires { AreParts parts.items }
+        ensures { IfOk result (λ d. d ≡ parts.items) }
     {
-        Domain { parts }
+        let ranges = ranges_of(alloc, parts.as_slice())?;
+        Ok(Domain { parts, ranges })
     }
 
-    /// The ranges, in the order of the parameters.
+    /// The parts, in the order of the parameters.
     pub fn parts(&self) -> &[Part]
         ensures parts { result.now ≡ self.now }
-        ensures ranges { AllByRecursion IsRange self.now }
+        ensures are { AreParts self.now }
     {
         self.parts.as_slice()
     }
 
-    /// Whether the words are in the domain: one for each part, in its range.
+    /// What each argument word ranges over.
+    #[tactic(auto, using(crate::proofs::Words::all_ranges))]
+    pub fn ranges(&self) -> &[Range]
+        ensures ranges { result.now ≡ ranges_of self.now }
+        ensures each { AllByRecursion IsRange (ranges_of self.now) }
+        ensures few { length (ranges_of self.now) ≤ 256 }
+    {
+        self.ranges.as_slice()
+    }
+
+    /// Whether the words are in the domain: one for each range, and in it.
     pub fn holds(&self, words: &Words) -> bool
         ensures { IsTrue result ↔ InDomain self.now words.now }
     {
-        let parts = self.parts();
-        if parts.len() != words.len() {
+        let ranges = self.ranges();
+        if ranges.len() != words.len() {
             return false;
         }
-        for (part, word) in parts.iter().zip(words.as_slice()) {
-            if !part.has(*word) {
+        for (range, word) in ranges.iter().zip(words.as_slice()) {
+            if !range.has(*word) {
                 return false;
             }
         }
@@ -140,14 +159,14 @@ impl Domain {
     /// Each words of the domain are the tuple of a number below the count.
     #[tactic(auto, using(crate::proofs::Tuples::every_tuple, crate::proofs::Tuples::some_tuples))]
     pub fn size_within(&self, most: u32) -> Option<u32>
-        ensures size { SomeIff result (size_of self.now ≤ most) (size_of self.now) }
-        ensures some { 0 < size_of self.now }
-        ensures every { (words : List ℕ) → InDomain self.now words → IsTuple self.now words }
+        ensures size { SomeIff result (size_of (ranges_of self.now) ≤ most) (size_of (ranges_of self.now)) }
+        ensures some { 0 < size_of (ranges_of self.now) }
+        ensures every { (words : List ℕ) → InDomain self.now words → IsTuple (ranges_of self.now) words }
     {
         let most = u128::from(most);
         let mut size = 1;
-        for part in self.parts() {
-            size *= part.size();
+        for range in self.ranges() {
+            size *= range.size();
             if size > most {
                 return None;
             }
@@ -161,19 +180,31 @@ impl Domain {
 
     /// The words of the tuple of a number. Tuples are counted from the low ends on, the last word running fastest.
     pub fn tuple(&self, alloc: Global, number: u32) -> Result<Words, AllocError>
-        requires { number < size_of self.now }
-        ensures tuple { IfOk result (λ words. words ≡ tuple_of self.now number) }
+        requires { number < size_of (ranges_of self.now) }
+        ensures tuple { IfOk result (λ words. words ≡ tuple_of (ranges_of self.now) number) }
         ensures within { IfOk result (InDomain self.now) }
     {
-        let parts = self.parts();
-        let mut words = vec![in alloc; 0; parts.len()]?;
+        let ranges = self.ranges();
+        let mut words = vec![in alloc; 0; ranges.len()]?;
         let mut rest = u128::from(number);
-        for index in (0..parts.len()).rev() {
-            let part = parts[index];
-            let size = part.size();
-            words[index] = part.word_at(rest % size);
+        for index in (0..ranges.len()).rev() {
+            let range = ranges[index];
+            let size = range.size();
+            words[index] = range.word_at(rest % size);
             rest /= size;
         }
         Ok(Items::from_vec(words))
+    }
+
+    /// The least words of the domain: each is that of its range's low end.
+    pub fn least(&self, alloc: Global) -> Result<Words, AllocError>
+        ensures least { IfOk result (λ words. words ≡ least_words self.now) }
+        ensures within { IfOk result (InDomain self.now) }
+    {
+        let mut words = Items::new(alloc);
+        for range in self.ranges() {
+            words.push(range.low_word())?;
+        }
+        Ok(words)
     }
 }

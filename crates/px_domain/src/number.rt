@@ -1,7 +1,8 @@
 // Numbers in decimal.
 ghost use Rattle.std.specs.Prelude.{◌≡◌, length, take_while};
 ghost use Rattle.std.specs.Char.{is_ascii_digit};
-ghost use Rattle.px_program.specs.declared.program.Place.{Place};
+ghost use Rattle.px_domain.specs.declared.range.Range.{Range};
+ghost use Rattle.px_domain.specs.Domain.{IsRange};
 ghost use Rattle.px_domain.specs.Grammar.{in_range, number_of_text, numeral_of};
 
 use itoa::Buffer;
@@ -22,9 +23,9 @@ pub(crate) fn numeral_of(text: &[u8]) -> &[u8]
     &text[..sign + digits]
 }
 
-// The number whose decimal the text is, as far as a place may have it.
+// The number whose decimal the text is, as far as a range may have it.
 pub(crate) fn number_of_text(text: &[u8]) -> Option<i128>
-    ensures { (place : Place) → in_range place result ≡ in_range place (number_of_text text.now) }
+    ensures { (range : Range) → IsRange range → in_range range result ≡ in_range range (number_of_text text.now) }
 {
     let number = std::str::from_utf8(text).ok()?.parse::<i128>().ok()?;
     let mut buffer = Buffer::new();

@@ -1,6 +1,6 @@
 // The numbers and the argument words of integer places: Partition I, 8.2.2 and 12.1.
 ghost use Rattle.std.specs.Prelude.{◌≡◌, ◌<◌, ◌^◌, ◌≤ℤ◌, ◌↔◌, IsTrue};
-ghost use Rattle.px_domain.specs.Place.{high_end, is_signed, is_within, is_wide, low_end, number_of, word_bits, word_of};
+ghost use Rattle.px_domain.specs.Place.{high_end, is_signed, is_wide, low_end, number_of, word_bits, word_of};
 
 use px_program::Place;
 
@@ -9,15 +9,6 @@ use px_program::Place;
 pub struct Span {
     pub low: i128,
     pub high: i128,
-}
-
-impl Span {
-    /// Whether the number is one of them.
-    pub fn has(self, number: i128) -> bool
-        ensures { IsTrue result ↔ ((self.low ≤ℤ number) × (number ≤ℤ self.high)) }
-    {
-        self.low <= number && number <= self.high
-    }
 }
 
 /// All numbers of an integer place.

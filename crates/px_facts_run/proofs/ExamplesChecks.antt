@@ -8,7 +8,7 @@ use Rattle.px_program.specs.declared.program.Place.TheVariants.{I4, I8}
 use Rattle.px_program.specs.declared.program.Program.{Program}
 use Rattle.px_program.specs.Alone.{alone}
 use Rattle.px_program.specs.Formed.{instr_at}
-use Rattle.px_verify.specs.Simple.{fault_of, is_fine}
+use Rattle.px_simple.specs.Simple.{fault_of, is_fine}
 use Rattle.px_facts_run.proofs.Methods as methods
 use Rattle.px_facts_run.proofs.Methods.{Sized, instance_of, laid_from, method_of}
 

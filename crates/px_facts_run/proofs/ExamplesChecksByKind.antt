@@ -20,7 +20,7 @@ use Rattle.px_program.specs.declared.program.Program.{Program}
 use Rattle.px_program.specs.declared.program.TypeInfo.{TypeInfo}
 use Rattle.px_program.specs.Alone.{alone, no_layout}
 use Rattle.px_program.specs.Library.{library_types}
-use Rattle.px_verify.specs.Simple.{fault_of, is_fine}
+use Rattle.px_simple.specs.Simple.{fault_of, is_fine}
 use Rattle.px_facts_run.proofs.Methods.{Sized, add, instance_of, laid_from, ldarg, ldc, method_of, nop, ret}
 
 -- the method of these rows, with the parameters `int32`, `int32` and `int64`

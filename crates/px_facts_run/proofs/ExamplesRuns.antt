@@ -16,7 +16,8 @@ use Rattle.px_rank.specs.Distance.{distance_of, gap_of}
 use Rattle.px_words.specs.Word.{word}
 use Rattle.px_domain.specs.declared.domain.Part.{Part}
 use Rattle.px_domain.specs.declared.domain.Part.TheVariants.{Scalar}
-use Rattle.px_domain.specs.Grammar.{domain_of, groups_at, group_at, range_at}
+use Rattle.px_domain.specs.Grammar.{domain_of, groups_at, part_at, group_at, scalar_at, range_at, span_at, number_at}
+use Rattle.px_facts_run.proofs.Givens.{integers}
 use Rattle.px_interp.specs.Run.{Course, course_of}
 use Rattle.px_interp.specs.Table.{run}
 use Rattle.px_facts_run.proofs.Methods.{Sized, add, br, branch_on, brfalse, brtrue, instance_of, laid_from, ldarg, ldc, method_of, nop, ret, sub}
@@ -53,8 +54,8 @@ returns n events gaps = record { events = events; gaps = gaps; end = Some (Retur
 abbrev is_cut : List Event → List ℕ → Course
 is_cut events gaps = record { events = events; gaps = gaps; end = Some StepBound }
 
-whole_read : domain_of (I4 ∷ I4 ∷ []) (codes "(*)(*)") ≡ Ok whole
-unfolding domain_of groups_at group_at range_at digits
+whole_read : domain_of (integers (I4 ∷ I4 ∷ [])) (codes "(*)(*)") ≡ Ok whole
+unfolding domain_of groups_at part_at group_at scalar_at range_at digits
 whole_read = refl
 
 -- COMPARISONS AT THE ENDS OF THE RANGE

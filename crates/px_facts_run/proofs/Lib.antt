@@ -1,3 +1,4 @@
+mod ExamplesArrays
 mod ExamplesCells
 mod ExamplesChecks
 mod ExamplesChecksByKind
@@ -16,5 +17,6 @@ mod ExamplesTuples
 mod ExamplesTypes
 mod ExamplesWords32
 mod ExamplesWords64
+mod Givens
 mod Held
 mod Methods

@@ -5,8 +5,8 @@ use Rattle.px_cells.specs.declared.plain.NoPool.{NoPool}
 use Rattle.px_cells.specs.declared.plain.Plain.{Plain}
 use Rattle.px_cells.specs.Plain.{LiesIn, plain, plain_algebra, plain_laws}
 use Rattle.px_domain.specs.declared.domain.Part.{Part}
-use Rattle.px_domain.specs.declared.domain.Part.TheVariants.{Scalar}
-use Rattle.px_domain.specs.Domain.{InDomain, places_of}
+use Rattle.px_domain.specs.declared.range.Range.{Range}
+use Rattle.px_domain.specs.Domain.{AreIn, InDomain, places_of, ranges_of}
 use Rattle.px_domain.specs.Place.{word_bits}
 use Rattle.px_program.specs.declared.program.Method.{Method}
 use Rattle.px_program.specs.declared.program.Place.{Place}
@@ -16,7 +16,7 @@ use Rattle.px_program.specs.declared.record.Bounds.{Bounds}
 use Rattle.px_program.specs.declared.record.End.{End}
 use Rattle.px_program.specs.Arguments.{arguments_of, params_in}
 use Rattle.px_program.specs.Formed.{all_params, entry_of}
-use Rattle.px_verify.specs.Typing.{IsTyped}
+use Rattle.px_simple.specs.Typing.{IsTyped}
 use Rattle.px_interp.specs.declared.machine.Seen.{Seen}
 use Rattle.px_interp.specs.Run.{course_by, course_in, course_of, no_pool, seen_events, seen_gaps, with_receiver}
 use Rattle.px_interp.specs.Shape.{SameEnds, SameNext, SameShape}
@@ -26,12 +26,16 @@ use Rattle.px_interp.proofs.Related.{AlikeEnds, Follows, Law, PairsAt, runs_alik
 use Rattle.px_interp.proofs.Steps.{run_ends}
 use Rattle.px_interp.proofs.Typed.{typed_names}
 
+-- words of ranges are arguments for their places
+words_lie : (ranges : List Range) (words : List ℕ) → AreIn ranges words → AreArguments (LiesIn no_pool) (map (λ (r : Range). r.place) ranges) (map plain words)
+words_lie [] [] h = tt
+words_lie (range ∷ ranges) (word ∷ words) h = (h.0.0, words_lie ranges words h.1)
+words_lie [] (word ∷ words) h = absurd h
+words_lie (range ∷ ranges) [] h = absurd h
+
 -- words of a domain are arguments for its places
 pub words_stand : (parts : List Part) (words : List ℕ) → InDomain parts words → AreArguments (LiesIn no_pool) (places_of parts) (map plain words)
-words_stand [] [] h = tt
-words_stand (Scalar place low high ∷ parts) (word ∷ words) h = (h.0.0, words_stand parts words h.1)
-words_stand [] (word ∷ words) h = absurd h
-words_stand (part ∷ parts) [] h = absurd h
+words_stand parts words h = words_lie (ranges_of parts) words h
 
 -- nothing is asked of two scalars
 abbrev AnyScalars : NoPool → ℕ → Plain → Plain → Type 0

@@ -24,7 +24,7 @@ use Rattle.px_program.specs.declared.record.Value.TheVariants as values
 use Rattle.px_program.specs.Formed.{all_params, instr_at}
 use Rattle.px_rank.specs.Distance.{gap_of}
 use Rattle.px_domain.specs.Place.{word_bits}
-use Rattle.px_verify.specs.Typing.{HasValue}
+use Rattle.px_simple.specs.Typing.{HasValue}
 use Rattle.px_interp.specs.declared.machine.Seen.{Seen}
 use Rattle.px_interp.specs.Shape.{SameEndKind}
 use Rattle.px_interp.specs.Table.{State, Step, Goes, Chooses, Ends, Stuck, Outcome, behind, branched, condition_by, constant, is_zero, landing, on_argument, on_arithmetic, on_compare, on_move, on_return, on_truth, on_two, operator_of, pushed, compare_of, truth_compare, row, row_at, run, step}

@@ -14,8 +14,8 @@ use Rattle.px_program.specs.declared.program.Method.{Method}
 use Rattle.px_program.specs.declared.record.End.{End}
 use Rattle.px_program.specs.declared.record.End.TheVariants as ends
 use Rattle.px_program.specs.Formed.{all_params, instr_at}
-use Rattle.px_verify.specs.Simple.{is_sum}
-use Rattle.px_verify.specs.Typing.{Fits, HasValue, IsTyped}
+use Rattle.px_simple.specs.Simple.{is_sum}
+use Rattle.px_simple.specs.Typing.{Fits, HasValue, IsTyped}
 use Rattle.px_interp.specs.declared.machine.Seen.{Seen}
 use Rattle.px_interp.specs.Rows.{HasScalar, Needs}
 use Rattle.px_interp.specs.Run.{course_by, no_pool}

@@ -20,8 +20,8 @@ use Rattle.px_program.specs.declared.program.Place.{Place}
 use Rattle.px_program.specs.declared.program.Place.TheVariants.{I4}
 use Rattle.px_program.specs.Formed.{all_params, instr_at}
 use Rattle.px_domain.specs.Place.{word_bits}
-use Rattle.px_verify.specs.Simple.{is_sum}
-use Rattle.px_verify.specs.Typing.{At, Fits, HasValue, IsTyped}
+use Rattle.px_simple.specs.Simple.{is_sum}
+use Rattle.px_simple.specs.Typing.{At, Fits, HasValue, IsTyped}
 use Rattle.px_interp.specs.Table.{State, Step, Goes, Chooses, Ends, Stuck, Outcome, behind, branched, condition_by, constant, is_zero, landing, on_arithmetic, on_compare, on_move, on_return, on_truth, on_two, operator_of, pushed, compare_of, row, row_at, run, step}
 use Rattle.px_interp.specs.Words.{AreArguments}
 

@@ -5,8 +5,8 @@ use Rattle.px_program.specs.declared.instr.Code.TheVariants as codes
 use Rattle.px_program.specs.declared.instr.Instr.{Instr}
 use Rattle.px_program.specs.declared.program.Method.{Method}
 use Rattle.px_program.specs.Formed.{instr_at}
-use Rattle.px_verify.specs.Simple.{after}
-use Rattle.px_verify.specs.Typing.{Fits, IsTyped, depth_from}
+use Rattle.px_simple.specs.Simple.{after}
+use Rattle.px_simple.specs.Typing.{Fits, IsTyped, depth_from}
 use Rattle.px_interp.proofs.Related.{NamesValue}
 
 -- where an instruction is there is a depth

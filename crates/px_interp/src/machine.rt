@@ -2,7 +2,7 @@
 ghost use Rattle.std.specs.Prelude.{◌≡◌, ◌≤◌, ℕ, Some, IfOk, IsSome, OnOk, map, vec_len};
 ghost use Rattle.px_cells.specs.Plain.{plain, plain_algebra};
 ghost use Rattle.px_program.specs.Formed.{Follow, all_params, instr_at};
-ghost use Rattle.px_verify.specs.Typing.{IsTyped};
+ghost use Rattle.px_simple.specs.Typing.{IsTyped};
 ghost use Rattle.px_interp.specs.Run.{course_by, no_pool, seen_events, seen_gaps};
 ghost use Rattle.px_interp.specs.Table.{first, run};
 ghost use Rattle.px_interp.specs.Words.{AreArguments};
@@ -11,7 +11,7 @@ use crate::rows::{Next, act};
 use crate::stack::Stack;
 use px_cells::Worded;
 use px_program::{End, Event, Instr, Method};
-use px_verify::instr_at;
+use px_simple::instr_at;
 use std::alloc::{AllocError, Global};
 
 /// An event of a run, with what is known beside it.

@@ -11,7 +11,7 @@ use crate::machine::{Seen, trace};
 use px_cells::{NoPool, Plain};
 use px_domain::Domain;
 use px_program::{Bounds, Event, Method, Record, Words};
-use px_verify::Verified;
+use px_simple::Simple;
 use sqlite_items::Items;
 use std::alloc::{AllocError, Global};
 
@@ -19,7 +19,7 @@ use std::alloc::{AllocError, Global};
 /// The record has the events, the gap of each, and the end. The only error is want of memory.
 pub fn run(
     alloc: Global,
-    program: &Verified,
+    program: &Simple,
     domain: &Domain,
     words: &Words,
     bounds: Bounds,
@@ -93,7 +93,7 @@ fn gaps_of(alloc: Global, seen: &[Seen<Plain>]) -> Result<Items<u64>, AllocError
 
 /// The law that paths part only at sites: where two runs of a domain have begun with the same events, they come to the same site next,
 /// or both end, and in the same way. So no path is a front of another. The call changes nothing.
-pub fn same_shape(program: &Verified, domain: &Domain)
+pub fn same_shape(program: &Simple, domain: &Domain)
     requires places { places_of domain.now ≡ arguments_of program.now }
     ensures { (bounds : Bounds) → SameShape program.now domain.now bounds }
 {

@@ -3,7 +3,7 @@ use Rattle.std.proofs.Common.{◌≡◌, ◌≢◌, ℕ, suc, zero, ◌+◌, ◌
 use Rattle.std.specs.List.{AllByRecursion}
 use Rattle.std.specs.Prelude.{◌⊎◌}
 use Rattle.px_domain.specs.declared.domain.Part.{Part}
-use Rattle.px_domain.specs.Domain.{InDomain, IsTuple, size_of, tuple_of}
+use Rattle.px_domain.specs.Domain.{InDomain, IsTuple, ranges_of, size_of, tuple_of}
 use Rattle.px_interp.specs.Run.{IsRun, Stands, course_of, path_of}
 use Rattle.px_program.specs.declared.program.Program.{Program}
 use Rattle.px_program.specs.declared.record.Bounds.{Bounds}
@@ -55,18 +55,18 @@ all_push P (y ∷ xs) x all one = (all.0, all_push P xs x all.1 one)
 pub record Tried (program : Program) (domain : List Part) (bounds : Bounds) (k : ℕ) (records : List Record) : Type 0 where
   pub stand : AllByRecursion (Stands program domain bounds) records
   pub distinct : AreDistinct (paths_of records)
-  pub complete : (n : ℕ) → n < k → HasPath (paths_of records) (path_of program domain bounds (tuple_of domain n))
+  pub complete : (n : ℕ) → n < k → HasPath (paths_of records) (path_of program domain bounds (tuple_of (ranges_of domain) n))
   pub few : length records ≤ k
   pub short : AllByRecursion (λ r. length r.events ≤ 2 * bounds.steps + 16) records
 
 -- the record is the run of the tuple of this number
 pub record IsOfTuple (program : Program) (domain : List Part) (bounds : Bounds) (k : ℕ) (r : Record) : Type 0 where
-  pub words : r.words ≡ tuple_of domain k
+  pub words : r.words ≡ tuple_of (ranges_of domain) k
   pub within : InDomain domain r.words
   pub is_run : IsRun program domain bounds r
   pub short : length r.events ≤ 2 * bounds.steps + 16
 
-pub of_tuple : (program : Program) (domain : List Part) (bounds : Bounds) (k : ℕ) (r : Record) (words : List ℕ) → r.words ≡ words → words ≡ tuple_of domain k → InDomain domain words → IsRun program domain bounds r
+pub of_tuple : (program : Program) (domain : List Part) (bounds : Bounds) (k : ℕ) (r : Record) (words : List ℕ) → r.words ≡ words → words ≡ tuple_of (ranges_of domain) k → InDomain domain words → IsRun program domain bounds r
     → length r.events ≤ 2 * bounds.steps + 16 → IsOfTuple program domain bounds k r
 of_tuple program domain bounds k r words a b within is_run short =
     let P : List ℕ → Type 0 = λ w. InDomain domain w in
@@ -76,7 +76,7 @@ split : (n k : ℕ) → n < k + 1 → (n < k) ⊎ (n ≡ k)
 split n k h = grind arith
 
 module _ (program : Program) (domain : List Part) (bounds : Bounds) (k : ℕ) (rs : List Record) (r : Record) (tried : Tried program domain bounds k rs) (one : IsOfTuple program domain bounds k r) where
-  path_is : r.events ≡ path_of program domain bounds (tuple_of domain k)
+  path_is : r.events ≡ path_of program domain bounds (tuple_of (ranges_of domain) k)
   path_is = ap (λ c. c.events) (sym one.is_run) ∙ ap (λ w. (course_of program domain bounds w).events) one.words
 
   add_new : (HasPath (paths_of rs) r.events → ⊥) → Tried program domain bounds (k + 1) (rs ++ r ∷ [])
@@ -86,11 +86,11 @@ module _ (program : Program) (domain : List Part) (bounds : Bounds) (k : ℕ) (r
         stand = all_push (Stands program domain bounds) rs r tried.stand (record { within = one.within; is_run = one.is_run });
         distinct = subst D (sym (paths_push rs r)) (distinct_push (paths_of rs) r.events tried.distinct none);
         complete = λ n less.
-            let P : List Path → Type 0 = λ v. HasPath v (path_of program domain bounds (tuple_of domain n)) in
+            let P : List Path → Type 0 = λ v. HasPath v (path_of program domain bounds (tuple_of (ranges_of domain) n)) in
             subst P (sym (paths_push rs r))
             (elim (split n k less) [
-              | inl a ↦ has_left (paths_of rs) r.events (path_of program domain bounds (tuple_of domain n)) (tried.complete n a)
-              | inr e ↦ has_last (paths_of rs) r.events (path_of program domain bounds (tuple_of domain n)) (path_is ∙ ap (λ m. path_of program domain bounds (tuple_of domain m)) (sym e))
+              | inl a ↦ has_left (paths_of rs) r.events (path_of program domain bounds (tuple_of (ranges_of domain) n)) (tried.complete n a)
+              | inr e ↦ has_last (paths_of rs) r.events (path_of program domain bounds (tuple_of (ranges_of domain) n)) (path_is ∙ ap (λ m. path_of program domain bounds (tuple_of (ranges_of domain) m)) (sym e))
             ]);
         few = omega (arith, tried.few, length-append rs (r ∷ []));
         short = all_push (λ x. length x.events ≤ 2 * bounds.steps + 16) rs r tried.short one.short;
@@ -105,7 +105,7 @@ module _ (program : Program) (domain : List Part) (bounds : Bounds) (k : ℕ) (r
           | inl a ↦ tried.complete n a
           | inr e ↦
               let P : Path → Type 0 = λ p. HasPath (paths_of rs) p in
-              subst P (path_is ∙ ap (λ m. path_of program domain bounds (tuple_of domain m)) (sym e)) has
+              subst P (path_is ∙ ap (λ m. path_of program domain bounds (tuple_of (ranges_of domain) m)) (sym e)) has
         ];
     few = omega (arith, tried.few);
     short = tried.short;
@@ -131,16 +131,16 @@ not_none [] p h e = absurd h
 not_none (r ∷ rs) p h e = cc
 
 -- all tuples were tried
-pub all_tried : (program : Program) (domain : List Part) (bounds : Bounds) (k size : ℕ) (rs : List Record) → Tried program domain bounds k rs → k ≡ size → size ≡ size_of domain → 0 < size_of domain → size_of domain < 2 ^ 32
-    → ((words : List ℕ) → InDomain domain words → IsTuple domain words) → IsExplored program domain bounds rs
+pub all_tried : (program : Program) (domain : List Part) (bounds : Bounds) (k size : ℕ) (rs : List Record) → Tried program domain bounds k rs → k ≡ size → size ≡ size_of (ranges_of domain) → 0 < size_of (ranges_of domain) → size_of (ranges_of domain) < 2 ^ 32
+    → ((words : List ℕ) → InDomain domain words → IsTuple (ranges_of domain) words) → IsExplored program domain bounds rs
 all_tried program domain bounds k size rs tried a b some few every =
     let lt : 0 < k = omega arith in
     record {
-      some = not_none rs (path_of program domain bounds (tuple_of domain 0)) (tried.complete 0 lt);
+      some = not_none rs (path_of program domain bounds (tuple_of (ranges_of domain) 0)) (tried.complete 0 lt);
       stand = tried.stand;
       distinct = tried.distinct;
       complete = λ words within.
-          let t : IsTuple domain words = every words within in
+          let t : IsTuple (ranges_of domain) words = every words within in
           let less : t.number < k = omega (arith, t.less) in
           let P : List ℕ → Type 0 = λ w. HasPath (paths_of rs) (path_of program domain bounds w) in
           subst P t.same (tried.complete t.number less);

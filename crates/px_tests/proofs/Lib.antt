@@ -1,2 +1,3 @@
 mod Heads
 mod Tests
+mod Words

@@ -11,7 +11,7 @@ use crate::domains::{put_args, put_domain};
 use crate::ends::put_end;
 use crate::lines::{put_bounds, put_counts, put_input, put_limits, put_path_part, put_test_head};
 use crate::{Findings, Input};
-use px_domain::Part;
+use px_domain::Domain;
 use px_io::Piece::Text;
 use px_io::{Sink, Stopped, put_pieces};
 use px_program::{End, Program, Record};
@@ -49,13 +49,13 @@ fn put_path_and_end<O: Sink>(out: &mut O, program: &Program, run: &Record) -> Re
 fn put_run<O: Sink>(
     out: &mut O,
     program: &Program,
-    parts: &[Part],
+    domain: &Domain,
     run: &Record,
 ) -> Result<(), Stopped>
-    requires { InDomain parts.now run.now.words }
-    ensures { Puts O.written O.faults out.old (args_text parts.now run.now.words ++ (path_part run.now.events ++ end_part program.now run.now.end)) out.new result }
+    requires { InDomain domain.now run.now.words }
+    ensures { Puts O.written O.faults out.old (args_text domain.now run.now.words ++ (path_part run.now.events ++ end_part program.now run.now.end)) out.new result }
 {
-    put_args(out, parts, run.words.as_slice())?;
+    put_args(out, domain, run.words.as_slice())?;
     put_path_and_end(out, program, run)
 }
 
@@ -63,49 +63,49 @@ fn put_run<O: Sink>(
 fn put_test<O: Sink>(
     out: &mut O,
     program: &Program,
-    parts: &[Part],
+    domain: &Domain,
     number: u64,
     run: &Record,
 ) -> Result<(), Stopped>
-    requires { InDomain parts.now run.now.words }
-    ensures { Puts O.written O.faults out.old (test_text program.now parts.now number run.now) out.new result }
+    requires { InDomain domain.now run.now.words }
+    ensures { Puts O.written O.faults out.old (test_text program.now domain.now number run.now) out.new result }
 {
     put_test_head(out, number)?;
-    put_run(out, program, parts, run)
+    put_run(out, program, domain, run)
 }
 
 fn put_tests<O: Sink>(
     out: &mut O,
     program: &Program,
-    parts: &[Part],
+    domain: &Domain,
     records: &[Record],
 ) -> Result<(), Stopped>
-    requires { AllByRecursion (λ r. InDomain parts.now r.words) records.now }
-    ensures { Puts O.written O.faults out.old (tests_text program.now parts.now records.now (length records.now)) out.new result }
+    requires { AllByRecursion (λ r. InDomain domain.now r.words) records.now }
+    ensures { Puts O.written O.faults out.old (tests_text program.now domain.now records.now (length records.now)) out.new result }
 {
     for (number, record) in records.iter().enumerate() {
-        put_test(out, program, parts, number as u64, record)?;
+        put_test(out, program, domain, number as u64, record)?;
     }
     Ok(())
 }
 
-// Writes the report of a domain's parts and of records.
+// Writes the report of a domain and of records.
 fn put_report<O: Sink>(
     out: &mut O,
     program: &Program,
     input: &Input,
     findings: &Findings,
-    parts: &[Part],
+    domain: &Domain,
     records: &[Record],
 ) -> Result<(), Stopped>
-    requires { AllByRecursion (λ r. InDomain parts.now r.words) records.now }
-    ensures { Puts O.written O.faults out.old (input_text input.now ++ (domain_text parts.now ++ (bounds_text findings.now.bounds ++ (limits_text findings.now.limits ++ (tests_text program.now parts.now records.now (length records.now) ++ counts_text records.now findings.now.refuted))))) out.new result }
+    requires { AllByRecursion (λ r. InDomain domain.now r.words) records.now }
+    ensures { Puts O.written O.faults out.old (input_text input.now ++ (domain_text domain.now ++ (bounds_text findings.now.bounds ++ (limits_text findings.now.limits ++ (tests_text program.now domain.now records.now (length records.now) ++ counts_text records.now findings.now.refuted))))) out.new result }
 {
     put_input(out, input)?;
-    put_domain(out, parts)?;
+    put_domain(out, domain)?;
     put_bounds(out, findings.bounds)?;
     put_limits(out, findings.limits)?;
-    put_tests(out, program, parts, records)?;
+    put_tests(out, program, domain, records)?;
     put_counts(out, records, findings.refuted)
 }
 
@@ -120,7 +120,6 @@ pub fn write_report<O: Sink>(
     requires { AllByRecursion (λ r. InDomain findings.now.domain r.words) findings.now.records }
     ensures { Puts O.written O.faults out.old (text_of program.now input.now findings.now) out.new result }
 {
-    let parts = findings.domain.parts();
     let records = findings.records.as_slice();
-    put_report(out, program, input, findings, parts, records)
+    put_report(out, program, input, findings, &findings.domain, records)
 }

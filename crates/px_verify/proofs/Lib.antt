@@ -1,3 +1,8 @@
-pub mod Built
-pub mod Search
-pub mod Typed
+pub mod Clashing
+pub mod Finding
+pub mod Giving
+pub mod Judging
+pub mod One
+pub mod Places
+pub mod Soundness
+pub mod Standing

@@ -1,3 +1,6 @@
-pub mod Search
-pub mod Simple
-pub mod Typing
+pub mod Accepted
+pub mod Clashes
+pub mod Judged
+pub mod Laws
+pub mod Sound
+pub mod Verdict

@@ -1,11 +1,14 @@
-//! The check that a run of a program never misses an operand.
+//! Which programs are typed, so that no instruction of a run finds another stack than it takes.
 #![tactic(auto)]
 
-mod offsets;
-mod rows;
-mod simple_methods;
+mod check;
+mod clashes;
+mod fault;
+mod judge;
+mod law;
 mod verified;
 
-pub use offsets::instr_at;
-pub use simple_methods::{SimpleFault, simple};
+pub use check::verify;
+pub use fault::VerifyFault;
+pub use law::{table_is_one, typing_is_sound, verdict_is_one};
 pub use verified::Verified;

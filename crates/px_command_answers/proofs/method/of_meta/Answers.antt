@@ -2,9 +2,6 @@ use Rattle.std.proofs.Common.{subst}
 use Rattle.px_link.specs.Link.{Blames}
 use Rattle.px_command_answers.proofs.method.of_meta.Goals as goal
 
-pub of_program-requires-clause-few : goal.of_program-requires-clause-few
-of_program-requires-clause-few c = c.in-Ok.ensures.arguments.few
-
 pub unlinked-requires : goal.unlinked-requires
 unlinked-requires c = λ method memory. subst (Blames c.args.meta.now c.args.image.now c.args.name.now) memory c.in-Err.ensures.fault
 

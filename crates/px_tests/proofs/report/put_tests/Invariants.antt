@@ -10,4 +10,4 @@ invariant-loop-number g l =
     let written = g.O.Sink.written in
     let faults = g.O.Sink.faults in
     let done : Result (Unit {0}) Stopped = Ok tt in
-    Puts written faults l.fn.out (tests_text l.program l.parts l.records l.number) l.out done
+    Puts written faults l.fn.out (tests_text l.program l.domain l.records l.number) l.out done

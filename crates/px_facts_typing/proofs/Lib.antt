@@ -1,0 +1,3 @@
+mod ExamplesKinds
+mod ExamplesMethods
+mod ExamplesRows

@@ -1,6 +1,0 @@
-use Rattle.std.proofs.Common.{◌≡◌, take}
-use Rattle.px_verify.specs.Search.{all_targets}
-use Rattle.px_verify.proofs.offsets.all_targets.Given as goal
-
-abbrev pub invariant-loop-instr : goal.invariant-loop-instr
-invariant-loop-instr l = l.targets.items ≡ all_targets (take l.instr-index l.code)
