@@ -1,3 +1,5 @@
 pub mod Algebra
+pub mod Elements
 pub mod Operands
 pub mod Plain
+pub mod Slots

@@ -1,7 +1,14 @@
--- What is true of operands, of their words.
+-- What is true of operands, of their words; and which operators have none.
 use Rattle.std.proofs.Common.{ℕ, ◌^◌, ◌<◌, List, [], ◌∷◌}
 use Rattle.std.specs.Prelude.{map, slice_index}
-use Rattle.px_words.specs.Operator.{AreOperands, LieIn}
+use Rattle.px_words.specs.declared.Op.{Op}
+use Rattle.px_words.specs.declared.Op.TheVariants.{Const}
+use Rattle.px_words.specs.Operator.{AreOperands, LieIn, bits_of}
+
+-- a constant, whose pattern lies in its width
+abbrev pub IsConstant : Op → Type 0
+IsConstant (Const wide pattern) = pattern < 2 ^ bits_of wide
+IsConstant _ = ⊥
 
 -- the words of scalars of these widths lie in them
 pub words_lie_in : {W : Type 0} (word : W → ℕ) (IsOf : ℕ → W → Type 0) → ((bits : ℕ) (x : W) → IsOf bits x → word x < 2 ^ bits)

@@ -1,9 +1,14 @@
 // The trait of scalars, and calls of it with a fixed number of operands.
-ghost use Rattle.std.specs.Prelude.{◌≡◌, ◌*◌, ◌<◌, ◌^◌, ◌∷◌, [], ℕ, List, IfOk};
+ghost use Rattle.std.specs.Prelude.{◌≡◌, ◌*◌, ◌<◌, ◌≤◌, ◌^◌, ◌∷◌, [], ℕ, List, Some, IfOk, OnOk, length};
+ghost use Rattle.std.specs.List.{AllByRecursion};
 ghost use Rattle.std.specs.Mem.{type_size};
-ghost use Rattle.px_words.specs.Operator.{AreOperands, IsOperator, widths_of};
+ghost use Rattle.px_words.specs.Operator.{AreOperands, IsOperator, bits_of, widths_of};
 ghost use Rattle.px_cells.specs.Algebra.{Algebra, Laws};
+ghost use Rattle.px_cells.specs.Elements.{selected, stored};
+ghost use Rattle.px_cells.specs.Operands.{IsConstant};
+ghost use Rattle.px_cells.specs.Slots.{IsSlotOf};
 
+use crate::{Slot, Widths};
 use px_words::Op;
 use std::alloc::{AllocError, Global};
 
@@ -38,6 +43,47 @@ pub trait Worded: Copy {
         requires operands { AreOperands (stands pool.old) (widths_of op) operands.now }
         ensures { IfOk result (λ x. algebra.applied pool.old op operands.now ≡ record { scalar = x; pool = pool.new }) };
 
+    /// The scalar of a constant, which has no operands.
+    /// After want of memory the pool may have gained something.
+    fn constant(alloc: Global, pool: &mut Self::Pool, op: Op) -> Result<Self, AllocError>
+        requires operator { IsConstant op }
+        requires pool { sound pool.old }
+        ensures { IfOk result (λ x. algebra.applied pool.old op [] ≡ record { scalar = x; pool = pool.new }) };
+
+    /// The element at an index among the slots of a cell, all numbers, and 0 past the last: for each element in order
+    /// a test whether the index is its number, and a choice. So it is the right one for all words of the index.
+    /// After want of memory the pool may have gained something.
+    fn select(
+        alloc: Global,
+        pool: &mut Self::Pool,
+        widths: Widths,
+        index: Self,
+        elements: &[Slot<Self>],
+    ) -> Result<Self, AllocError>
+        requires pool { sound pool.old }
+        requires index { stands pool.old (bits_of widths.index) index }
+        requires elements { AllByRecursion (IsSlotOf (stands pool.old) (Some widths.element)) elements.now }
+        requires short { length elements.now ≤ 2 ^ 32 }
+        ensures { IfOk result (λ x. selected algebra widths index elements.now pool.old ≡ record { scalar = x; pool = pool.new }) };
+
+    /// Writes the element at an index among the slots of a cell, all numbers, and none past the last: each element, in order,
+    /// becomes a choice by a test whether the index is its number. So each is the right one for all words of the index.
+    /// After want of memory the pool may have gained something, and some elements may be written.
+    fn store(
+        alloc: Global,
+        pool: &mut Self::Pool,
+        widths: Widths,
+        index: Self,
+        value: Self,
+        elements: &mut [Slot<Self>],
+    ) -> Result<(), AllocError>
+        requires pool { sound pool.old }
+        requires index { stands pool.old (bits_of widths.index) index }
+        requires value { stands pool.old (bits_of widths.element) value }
+        requires elements { AllByRecursion (IsSlotOf (stands pool.old) (Some widths.element)) elements.old }
+        requires short { length elements.old ≤ 2 ^ 32 }
+        ensures { OnOk result (stored algebra widths index value elements.old pool.old ≡ record { slots = elements.new; pool = pool.new }) };
+
     /// The word of a scalar under the words of the run.
     fn word(&self) -> u64
         ensures { result ≡ algebra.word self.now };
@@ -55,11 +101,11 @@ pub fn constant<W: Worded>(
     wide: bool,
     pattern: u64,
 ) -> Result<W, AllocError>
-    requires operator { IsOperator (Op.Const wide pattern) }
+    requires operator { IsConstant (Op.Const wide pattern) }
     requires pool { W.sound pool.old }
     ensures { IfOk result (λ x. W.algebra.applied pool.old (Op.Const wide pattern) [] ≡ record { scalar = x; pool = pool.new }) }
 {
-    W::apply(alloc, pool, Op::Const { wide, pattern }, &[])
+    W::constant(alloc, pool, Op::Const { wide, pattern })
 }
 
 /// What an operator of one operand gives.

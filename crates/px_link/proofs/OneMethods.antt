@@ -6,7 +6,7 @@ use Rattle.std.proofs.lemmas.Bool.{true≢false}
 use Rattle.std.proofs.lemmas.Option.{same_Some}
 use Rattle.px_code.specs.Body.{is_among, with_token}
 use Rattle.px_code.specs.declared.body.RawInstr.{RawInstr}
-use Rattle.px_meta.specs.Rows.{is_in, methods}
+use Rattle.px_meta.specs.Rows.{is_in}
 use Rattle.px_link_methods.specs.Codes.{IsCode, IsInstr, IsOutside, IsTokenCode, Numbering}
 use Rattle.px_link_methods.specs.Methods.{AreMethods, IsMethod, place_of_type, return_place}
 use Rattle.px_link_methods.specs.Slots.{Forms, forms_of}

@@ -1,14 +1,19 @@
 -- What the rows of a program's methods say of its bodies.
-use Rattle.std.proofs.Common.{◌≡◌, ◌≢◌, ℕ, suc, Bool, true, false, List, [], ◌∷◌, Some, length, refl, ap, arith}
+use Rattle.std.proofs.Common.{◌≡◌, ◌≢◌, ℕ, suc, Bool, true, false, List, [], ◌∷◌, Some, Ok, Result, length, refl, sym, ap, ◌∙◌, arith}
 use Rattle.std.specs.Prelude.{◌==◌, ◌<◌, if◌then◌else◌, slice_get, slice_index_or}
 use Rattle.std.specs.List.{AllByRecursion, AllPairs, AllZip, IsDistinct, flat_map}
 use Rattle.std.proofs.lemmas.Bool.{ne_eqb}
+use Rattle.std.proofs.lemmas.Option.{same_Some}
+use Rattle.px_code.specs.Reading.{PlacedFault}
 use Rattle.px_code.specs.declared.body.RawInstr.{RawInstr}
-use Rattle.px_meta.specs.Rows.{IsRow, is_in, methods}
+use Rattle.px_meta.specs.Rows.{IsRow, cell, is_in, methods}
 use Rattle.px_pe.specs.Image as pe
 use Rattle.px_program.proofs.Types.{each-append, each-weaken}
 use Rattle.px_link_types.proofs.Closed.{each-back}
 use Rattle.px_tables.specs.Metadata.{View}
+use Rattle.px_link_methods.specs.Methods.{AreByAddress}
+use Rattle.px_link_methods.proofs.RowPlaces.{beside}
+use Rattle.px_link_reach.specs.Bodies.{whole_at}
 use Rattle.px_link_reach.specs.Met.{IsBody, IsOwned, IsReached, target_of, with_overriders}
 use Rattle.px_link_reach.proofs.Reaching.{calls_met, rows_apart, targets_apart}
 use Rattle.px_link_reach.specs.Overriders.{overriders_in}
@@ -58,6 +63,9 @@ each_body v image Q (row ∷ rows) (whole ∷ bodies) are each = (each 0 row who
 
 -- AS THEY ARE READ
 
+same_whole : (one other : Whole) (read : Result Whole PlacedFault) → read ≡ Ok one → read ≡ Ok other → one ≡ other
+same_whole one other read is same = cc
+
 pub as_many : (v : View) (image : pe.View) (lists : List (List ℕ)) (starts : List ℕ) (reached : Reached) → IsReached v image lists starts reached → length reached.bodies ≡ length reached.rows
 as_many v image lists starts reached is = zip_length (IsBody v image) reached.rows reached.bodies is.bodies
 
@@ -70,6 +78,19 @@ targets_in v image lists starts reached is =
     let In : ℕ → Type 0 = λ row. is_in reached.rows row ≡ true in
     each_body v image (λ whole. AllByRecursion In (flat_map (target_of v) whole.body.code)) reached.rows reached.bodies is.bodies
     (λ k row whole at body. targets_of v In whole.body.code (λ j raw instr. target_by In lists (target_of v raw) (raw.opcode == 0x6F) (calls_met is k row whole j raw at body.read instr)))
+
+-- nothing of a method but its address is read
+whole_by_address : (v : View) (image : pe.View) (one other : ℕ) → cell v methods one 0 ≡ cell v methods other 0 → whole_at v image one ≡ whole_at v image other
+whole_by_address v image one other same = cc
+
+-- methods with one address have one body, since it is read there
+pub by_address : (v : View) (image : pe.View) (lists : List (List ℕ)) (starts : List ℕ) (reached : Reached) → IsReached v image lists starts reached → AreByAddress v reached.rows reached.bodies
+by_address v image lists starts reached is = λ k j one other body another one_at other_at body_at another_at same.
+    let first = beside (IsBody v image) reached.rows reached.bodies is.bodies k one one_at in
+    let second = beside (IsBody v image) reached.rows reached.bodies is.bodies j other other_at in
+    let left = same_Some body first.0 (sym body_at ∙ first.1.0) in
+    let right = same_Some another second.0 (sym another_at ∙ second.1.0) in
+    left ∙ same_whole first.0 second.0 (whole_at v image one) first.1.1.read (whole_by_address v image one other same ∙ second.1.1.read) ∙ sym right
 
 -- no method is named twice by the `callvirt` of a program
 pub targets_distinct : (v : View) (image : pe.View) (lists : List (List ℕ)) (starts : List ℕ) (reached : Reached) → IsReached v image lists starts reached → IsDistinct (λ row other. row == other) reached.virtual_targets

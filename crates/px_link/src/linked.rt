@@ -1,7 +1,7 @@
 // The program of a method of an assembly.
 ghost use Rattle.std.specs.Prelude.{◌≡◌, ◌<◌, ◌^◌, ◌∷◌, ℕ, List, length, IfOk, IfErr};
 ghost use Rattle.std.specs.List.{AllByRecursion};
-ghost use Rattle.px_link_methods.specs.Methods.{met_by_all};
+ghost use Rattle.px_link_methods.specs.Methods.{AreByAddress, met_by_all};
 ghost use Rattle.px_pe.specs.Image as pe;
 ghost use Rattle.px_program.specs.Arguments.{AreGiven, arguments_of};
 ghost use Rattle.px_program.specs.Formed.{IsWellFormed};
@@ -16,13 +16,14 @@ use crate::entry::{Entry, find_entry};
 use crate::layout::layout_of;
 use crate::overrides::{in_order, types_of};
 use px_code::BodyFault;
-use px_link_methods::{met_by_all, methods_of};
+use px_link_methods::{meet_all, methods_of};
 use px_link_reach::{Overriding, ReachFault, Reached, Whole, reach};
 use px_link_tokens::Tokens;
 use px_link_types::Types;
 use px_meta::Meta;
 use px_pe::Image;
-use px_program::Program;
+use px_program::{Program, TypeTable};
+use px_shared::Shared;
 use sqlite_items::Items;
 use std::alloc::{AllocError, Global};
 
@@ -70,16 +71,15 @@ fn types_met<'m, 'a>(
     alloc: Global,
     tokens: &Tokens<'m, 'a>,
     rows: &[u32],
-    bodies: &[Whole],
+    bodies: &[Shared<Whole>],
 ) -> Result<Types<'m, 'a>, AllocError>
     requires owned { AllByRecursion (IsOwned tokens.now) rows.now }
-    requires pairs { length bodies.now ≡ length rows.now }
+    requires shared { AreByAddress tokens.now rows.now bodies.now }
     ensures tables { IfOk result (λ types. types.tables ≡ tokens.now) }
     ensures numbers { IfOk result (λ types. Numbers tokens.now library_keys (met_by_all tokens.now rows.now bodies.now) types.keys) }
 {
-    let met = met_by_all(alloc, tokens, rows, bodies)?;
     let mut types = Types::new(alloc, tokens.meta())?;
-    types.meet(&met)?;
+    meet_all(alloc, &mut types, tokens, rows, bodies)?;
     Ok(types)
 }
 
@@ -107,9 +107,10 @@ fn program_with(
     let infos = types_of(alloc, tokens.meta(), overriding, types, rows, &targets)?;
     let methods = methods_of(alloc, tokens, types, rows, bodies)?;
     let layout = layout_of(alloc, tokens.meta(), types, rows)?;
+    let table = TypeTable::new(alloc, Items::from_vec(infos))?;
     Ok(Program {
-        types: Items::from_vec(infos),
-        methods: Items::from_vec(methods),
+        types: table,
+        methods,
         entry: 0,
         maker: maker_number(rows, entry.maker),
         layout,

@@ -1,19 +1,12 @@
 -- Keys that are added one after another.
 use Rattle.std.proofs.Common.{◌≡◌, ℕ, ◌+◌, ◌<◌, List, [], ◌∷◌, ◌++◌, get_or, take, length, append_assoc, append-nil, sym, ap, map, ◌∙◌, subst}
-use Rattle.std.specs.Prelude.{OnOk, Result, Ok, Err, Some}
 use Rattle.std.specs.List.{flat_map}
 use Rattle.std.proofs.lemmas.Grind.{flat_map-append}
 use Rattle.std.proofs.lemmas.List.{map_more, take_more}
 use Rattle.px_program.proofs.Types.{each-append}
-use Rattle.px_meta.specs.Members.{IsMethod, owner_of}
-use Rattle.px_meta.specs.Rows.{methods}
-use Rattle.px_meta.specs.declared.meta.MetaMethod.{MetaMethod}
-use Rattle.px_link_reach.specs.declared.body.Whole.{Whole}
 use Rattle.px_tables.specs.Metadata.{View}
-use Rattle.px_link_types.specs.Keys.{IsKey, alone}
+use Rattle.px_link_types.specs.Keys.{IsKey}
 use Rattle.px_link_types.specs.declared.key.Key.{Key}
-use Rattle.px_link_types.specs.declared.key.Leaf.TheVariants.{Defined}
-use Rattle.px_link_methods.specs.Methods.{keys_of_body, keys_of_sig, met_by, sig_at}
 use Rattle.px_link_methods.specs.Parts.{IsAdded}
 
 added_then : (v : View) (keys first mid second news : List Key) → IsAdded v keys first mid → IsAdded v mid second news → IsAdded v keys (first ++ second) news
@@ -25,7 +18,7 @@ added_then v keys first mid second news a b = record {
 added_as : (v : View) (keys more other news : List Key) → more ≡ other → IsAdded v keys more news → IsAdded v keys other news
 added_as v keys more other news e a = subst (λ m. IsAdded v keys m news) e a
 
-one_piece : {X Y : Type 0} (f : X → List Y) (xs : List X) (i : ℕ) (x : X) → i < length xs → x ≡ get_or xs i x → flat_map f (take (i + 1) xs) ≡ flat_map f (take i xs) ++ f x
+pub one_piece : {X Y : Type 0} (f : X → List Y) (xs : List X) (i : ℕ) (x : X) → i < length xs → x ≡ get_or xs i x → flat_map f (take (i + 1) xs) ≡ flat_map f (take i xs) ++ f x
 one_piece f xs i x less is =
     ap (flat_map f) (take_more xs i x less) ∙ flat_map-append f (take i xs) (get_or xs i x ∷ []) ∙ ap (λ l. flat_map f (take i xs) ++ l) (append-nil (f (get_or xs i x))) ∙ ap (λ y. flat_map f (take i xs) ++ f y) (sym is)
 
@@ -33,20 +26,6 @@ one_piece f xs i x less is =
 pub added_piece : {X : Type 0} (v : View) (f : X → List Key) (xs : List X) (i : ℕ) (x : X) (keys mid news : List Key) → IsAdded v keys (flat_map f (take i xs)) mid → i < length xs → x ≡ get_or xs i x → IsAdded v mid (f x) news
     → IsAdded v keys (flat_map f (take (i + 1) xs)) news
 added_piece v f xs i x keys mid news a less is b = added_as v keys _ _ news (sym (one_piece f xs i x less is)) (added_then v keys (flat_map f (take i xs)) mid (f x) news a b)
-
--- what a method meets: its owner, what its signature spells, and what its body meets
-pub added_method : {E : Type 0} (w v : View) → w ≡ v → (row : ℕ) (m : MetaMethod) (whole : Whole) (keys owned spelled news : List Key) (r : Result (Unit {0}) E) → IsMethod w row m
-    → IsAdded w keys (alone (Defined m.owner) ∷ []) owned → IsAdded w owned (keys_of_sig w (Some m.sig)) spelled → OnOk r (IsAdded v spelled (keys_of_body v whole) news)
-    → OnOk r (IsAdded v keys (met_by v (row, whole)) news)
-added_method w v e row m whole keys owned spelled news (Ok done) is owner sig body =
-    subst (λ u. IsAdded u spelled (keys_of_body u whole) news → IsAdded u keys (met_by u (row, whole)) news) e
-    (λ last.
-    let sig_too = subst (λ s. IsAdded w owned (keys_of_sig w s) spelled) (sym is.sig) sig in
-    let owner_too = subst (λ o. IsAdded w keys (alone (Defined o) ∷ []) owned) is.owner owner in
-    added_then w keys (alone (Defined (owner_of w methods row)) ∷ []) owned (keys_of_sig w (sig_at w row) ++ keys_of_body w whole) news owner_too
-    (added_then w owned (keys_of_sig w (sig_at w row)) spelled (keys_of_body w whole) news sig_too last))
-    body
-added_method w v e row m whole keys owned spelled news (Err fault) is owner sig body = tt
 
 -- one more item is mapped
 pub added_mapped : {X : Type 0} (v : View) (f : X → Key) (xs : List X) (i : ℕ) (d : X) (keys mid news : List Key) (key : Key) → IsAdded v keys (map f (take i xs)) mid → i < length xs → key ≡ f (get_or xs i d) → IsKey v key → news ≡ mid ++ key ∷ []

@@ -1,7 +1,9 @@
 -- What is known of each item of a list, taken from what is known of all that the items come to.
-use Rattle.std.proofs.Common.{◌≡◌, ℕ, zero, suc, ◌+◌, ◌<◌, List, [], ◌∷◌, ◌++◌, get_or, take, length, map, min, sym, ap, ◌∙◌, subst, arith}
+use Rattle.std.proofs.Common.{◌≡◌, ℕ, zero, suc, ◌+◌, ◌<◌, List, [], ◌∷◌, ◌++◌, get_or, take, length, map, min, Some, refl, sym, ap, ◌∙◌, subst, arith}
+use Rattle.std.specs.Prelude.{slice_get}
 use Rattle.std.specs.List.{AllByRecursion, AllZip, flat_map, zip}
 use Rattle.std.proofs.lemmas.List.{map_more, take_all, take_more}
+use Rattle.std.proofs.lemmas.Option.{slice_get_read}
 use Rattle.std.proofs.lemmas.Slice.Zip.{all_zipped_more, get_or-zip, length-zip}
 use Rattle.px_link_types.proofs.Closed.{each-back, each-front}
 
@@ -53,3 +55,14 @@ pair_of xs ys i x y first second x_is y_is = record {
 -- all pairs
 pub all_pairs : {X Y : Type 0} (xs : List X) (ys : List Y) (n : ℕ) → n ≡ min (length xs) (length ys) → take n (zip xs ys) ≡ zip xs ys
 all_pairs xs ys n e = take_all n (zip xs ys) (omega (arith, length-zip xs ys))
+
+-- what stands at a place of the list of pairs stands there in both lists
+pub unzipped : {X Y : Type 0} (xs : List X) (ys : List Y) (k : ℕ) (pair : X × Y) → slice_get (zip xs ys) k ≡ Some pair → (slice_get xs k ≡ Some pair.0) × (slice_get ys k ≡ Some pair.1)
+unzipped [] ys k pair at = absurd (cc)
+unzipped (x ∷ xs) [] k pair at = absurd (cc)
+unzipped (x ∷ xs) (y ∷ ys) zero pair at = let same : (x, y) ≡ pair = cc in (ap (λ p. Some p.0) same, ap (λ p. Some p.1) same)
+unzipped (x ∷ xs) (y ∷ ys) (suc k) pair at = unzipped xs ys k pair at
+
+-- each of a pair stands in its list
+pub pair_at : {X Y : Type 0} (xs : List X) (ys : List Y) (k : ℕ) (x : X) (y : Y) → IsPair xs ys k x y → (slice_get xs k ≡ Some x) × (slice_get ys k ≡ Some y)
+pair_at xs ys k x y pair = unzipped xs ys k (x, y) (slice_get_read (zip xs ys) (length (zip xs ys)) k (x, y) refl pair.within pair.is)

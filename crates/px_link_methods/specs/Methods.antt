@@ -1,5 +1,5 @@
 -- The methods of a program, from those of an assembly and their bodies (Partition II, 22.26, 23.2 and 25.4).
-use Rattle.std.specs.Prelude.{◌≡◌, ℕ, ◌==◌, not, if◌then◌else◌, List, [], ◌∷◌, ◌++◌, codes, map, Option, Some, None}
+use Rattle.std.specs.Prelude.{◌≡◌, ℕ, ◌==◌, not, if◌then◌else◌, List, [], ◌∷◌, ◌++◌, codes, map, Option, Some, None, slice_get}
 use Rattle.std.specs.List.{AllZip, flat_map, zip}
 use Rattle.px_code.specs.declared.body.RawClause.{RawClause}
 use Rattle.px_code.specs.declared.body.RawInstr.{RawInstr}
@@ -111,3 +111,8 @@ pub record IsMethod (v : View) (n : Numbering) (row : ℕ) (whole : Whole) (meth
 -- the methods of a program in the order of their rows
 abbrev pub AreMethods : View → Numbering → List Whole → List Method → Type 0
 AreMethods v n bodies made = AllZip (λ pair method. IsMethod v n pair.0 pair.1 method) (zip n.rows bodies) made
+
+-- methods with one address have one body
+abbrev pub AreByAddress : View → List ℕ → List Whole → Type 0
+AreByAddress v rows bodies = (k j one other : ℕ) (body another : Whole) → slice_get rows k ≡ Some one → slice_get rows j ≡ Some other → slice_get bodies k ≡ Some body → slice_get bodies j ≡ Some another
+    → cell v methods one 0 ≡ cell v methods other 0 → body ≡ another

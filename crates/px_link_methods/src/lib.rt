@@ -12,5 +12,5 @@ mod places;
 mod slots;
 
 pub use clauses::clause_of;
-pub use met::met_by_all;
+pub use met::meet_all;
 pub use methods::{methods_of, set_of};

@@ -1,5 +1,6 @@
 pub mod Adding
 pub mod Chains
+pub mod Firsts
 pub mod Keeping
 pub mod Listing
 pub mod Owned
@@ -7,3 +8,5 @@ pub mod Reaching
 pub mod Sets
 pub mod Sorting
 pub mod Stepping
+pub mod Visiting
+pub mod Zips

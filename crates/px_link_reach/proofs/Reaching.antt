@@ -1,7 +1,7 @@
 -- What is known of the methods that a program has.
 use Rattle.std.proofs.Common.{◌≡◌, ℕ, zero, suc, true, false, Bool, List, [], ◌∷◌, ◌++◌, length, Some, Result, Ok, Err, refl, sym, ap, ◌∙◌, subst, inl, inr, eqb-true, arith}
 use Rattle.std.specs.Prelude.{◌≢◌, ◌==◌, if◌then◌else◌, slice_get}
-use Rattle.std.specs.List.{AllPairs, AllZip, flat_map}
+use Rattle.std.specs.List.{AllPairs, flat_map}
 use Rattle.std.proofs.lemmas.Bool.{or_cases}
 use Rattle.std.proofs.lemmas.List.{take_all}
 use Rattle.px_code.specs.Reading.{PlacedFault}
@@ -14,6 +14,7 @@ use Rattle.px_link_reach.specs.Finding.{AreIn}
 use Rattle.px_link_reach.specs.Met.{IsBody, IsReached, calls_at, calls_of, each_once, in_body, target_of, virtual_target_of, virtual_targets_at, with_overriders}
 use Rattle.px_link_reach.specs.declared.body.Whole.{Whole}
 use Rattle.px_link_reach.specs.declared.methods.Reached.{Reached}
+use Rattle.px_link_reach.proofs.Zips.{zip_both, zip_length}
 use Rattle.px_link_reach.proofs.Sets.{added_apart, added_behind, added_in, each_from, each_in, in_either, in_left, in_once, in_right}
 
 -- PLACES
@@ -45,18 +46,6 @@ led_by f (x ∷ xs) row is = elim (in_either (f x) (flat_map f xs) row is) [
   | inl here ↦ record { k = 0; x = x; at = refl; there = here }
   | inr later ↦ let rest = led_by f xs row later in record { k = suc rest.k; x = rest.x; at = rest.at; there = rest.there }
 ]
-
-zip_both : {X Y : Type 0} (R : X → Y → Type 0) (xs : List X) (ys : List Y) (k : ℕ) (x : X) (y : Y) → AllZip R xs ys → slice_get xs k ≡ Some x → slice_get ys k ≡ Some y → R x y
-zip_both R [] ys k x y all e f = absurd (cc)
-zip_both R (w ∷ xs) [] k x y all e f = absurd all
-zip_both R (w ∷ xs) (z ∷ ys) zero x y all e f = let same : w ≡ x = cc in let other : z ≡ y = cc in subst (λ a. R a y) same (subst (R w) other all.0)
-zip_both R (w ∷ xs) (z ∷ ys) (suc k) x y all e f = zip_both R xs ys k x y all.1 e f
-
-zip_length : {X Y : Type 0} (R : X → Y → Type 0) (xs : List X) (ys : List Y) → AllZip R xs ys → length xs ≡ length ys
-zip_length R [] [] all = refl
-zip_length R [] (y ∷ ys) all = absurd all
-zip_length R (x ∷ xs) [] all = absurd all
-zip_length R (x ∷ xs) (y ∷ ys) all = ap suc (zip_length R xs ys all.1)
 
 -- BODIES
 

@@ -11,12 +11,14 @@ use Rattle.px_meta.specs.Rows.{is_in}
 use Rattle.px_pe.specs.Image as pe
 use Rattle.px_tables.specs.Metadata.{View}
 use Rattle.px_link_reach.specs.Bodies.{whole_at}
-use Rattle.px_link_reach.specs.Finding.{AreKept, AreUnderWay, IsRefused, Refuses, Visits}
+use Rattle.px_link_reach.specs.Finding.{AreKept, AreUnderWay, IsKnown, IsRefused, Refuses, Visits}
 use Rattle.px_link_reach.specs.Met.{AreMet, Blames, IsBody, IsFirstRefused, IsReached, add_new, calls_at, each_once, virtual_targets_at}
 use Rattle.px_link_reach.specs.declared.body.Whole.{Whole}
+use Rattle.px_link_reach.specs.declared.known.Known.{Known}
 use Rattle.px_link_reach.specs.declared.methods.ReachFault.{ReachFault}
 use Rattle.px_link_reach.specs.declared.methods.ReachFault.TheVariants as faults
 use Rattle.px_link_reach.specs.declared.methods.Reached.{Reached}
+use Rattle.px_link_reach.proofs.Zips.{zip_at}
 use Rattle.px_link_reach.proofs.Sets.{added-append, added_behind, in_at, in_left, in_once}
 
 -- PLACES
@@ -32,22 +34,10 @@ in_front (suc n) [] k x less e = absurd (cc)
 in_front (suc n) (z ∷ xs) zero x less e = e
 in_front (suc n) (z ∷ xs) (suc k) x less e = in_front n xs k x (omega arith) e
 
-take_next : {X : Type 0} (xs ys : List X) (n : ℕ) (x : X) → slice_get xs n ≡ Some x → take (suc n) (xs ++ ys) ≡ take n xs ++ x ∷ []
+pub take_next : {X : Type 0} (xs ys : List X) (n : ℕ) (x : X) → slice_get xs n ≡ Some x → take (suc n) (xs ++ ys) ≡ take n xs ++ x ∷ []
 take_next [] ys n x e = absurd (cc)
 take_next (z ∷ xs) ys zero x e = let same : z ≡ x = cc in ap (λ y. y ∷ []) same
 take_next (z ∷ xs) ys (suc n) x e = ap (λ l. z ∷ l) (take_next xs ys n x e)
-
-zip_next : {X Y : Type 0} (R : X → Y → Type 0) (xs : List X) (ys : List Y) (x : X) (y : Y) → AllZip R xs ys → R x y → AllZip R (xs ++ x ∷ []) (ys ++ y ∷ [])
-zip_next R [] [] x y all is = (is, tt)
-zip_next R [] (z ∷ ys) x y all is = absurd all
-zip_next R (w ∷ xs) [] x y all is = absurd all
-zip_next R (w ∷ xs) (z ∷ ys) x y all is = (all.0, zip_next R xs ys x y all.1 is)
-
-pub zip_at : {X Y : Type 0} (R : X → Y → Type 0) (xs : List X) (ys : List Y) (k : ℕ) (x : X) → AllZip R xs ys → slice_get xs k ≡ Some x → (y : Y) × R x y
-zip_at R [] ys k x all e = absurd (cc)
-zip_at R (w ∷ xs) [] k x all e = absurd all
-zip_at R (w ∷ xs) (z ∷ ys) zero x all e = let same : w ≡ x = cc in (z, subst (λ a. R a z) same all.0)
-zip_at R (w ∷ xs) (z ∷ ys) (suc k) x all e = zip_at R xs ys k x all.1 e
 
 -- what more methods lead to
 leads_on : {X : Type 0} (f : X → List ℕ) (xs ys : List X) (n : ℕ) (x : X) → slice_get xs n ≡ Some x → flat_map f (take (n + 1) (xs ++ ys)) ≡ flat_map f (take n xs) ++ f x
@@ -97,54 +87,52 @@ met_behind v image lists starts rows more n method met at e =
 
 -- THE LOOP
 
-pub under_way_first : (v : View) (image : pe.View) (lists : List (List ℕ)) (starts rows targets : List ℕ) (bodies : List Whole) → rows ≡ add_new [] starts → targets ≡ [] → bodies ≡ [] → AreKept v lists rows targets
-    → AreUnderWay v image lists starts 0 rows targets bodies
-under_way_first v image lists starts rows targets bodies e f g kept = record {
+pub under_way_first : (v : View) (image : pe.View) (lists : List (List ℕ)) (starts rows targets : List ℕ) (known : Known) → rows ≡ add_new [] starts → targets ≡ [] → IsKnown v image [] known → AreKept v lists rows targets
+    → AreUnderWay v image lists starts 0 rows targets known
+under_way_first v image lists starts rows targets known e f is kept = record {
   within = omega arith;
   met = met_first v image lists starts rows e;
-  bodies_are = subst (AllZip (IsBody v image) []) (sym g) tt;
+  known_is = is;
   targets_are = f;
   kept = kept;
 }
 
-under_way_behind : (v : View) (image : pe.View) (lists : List (List ℕ)) (starts rows more targets after_targets : List ℕ) (bodies : List Whole) (n : ℕ) (whole : Whole)
-    → AreUnderWay v image lists starts n rows targets bodies → Visits v image lists rows targets n (rows ++ more) after_targets whole → AreKept v lists (rows ++ more) after_targets
-    → AreUnderWay v image lists starts (n + 1) (rows ++ more) after_targets (bodies ++ whole ∷ [])
-under_way_behind v image lists starts rows more targets after_targets bodies n whole under visits kept =
+under_way_behind : (v : View) (image : pe.View) (lists : List (List ℕ)) (starts rows more targets after_targets : List ℕ) (known after_known : Known) (n : ℕ) → AreUnderWay v image lists starts n rows targets known
+    → Visits v image lists rows targets n (rows ++ more) after_targets → AreKept v lists (rows ++ more) after_targets → IsKnown v image (take (n + 1) (rows ++ more)) after_known
+    → AreUnderWay v image lists starts (n + 1) (rows ++ more) after_targets after_known
+under_way_behind v image lists starts rows more targets after_targets known after_known n under visits kept is =
     let within : n < length rows = slice_get_within rows n visits.method visits.at in
-    let one : n + 1 ≡ suc n = omega arith in
-    let next : take (n + 1) (rows ++ more) ≡ take n rows ++ visits.method ∷ [] = ap (λ m. take m (rows ++ more)) one ∙ take_next rows more n visits.method visits.at in
     let find = virtual_targets_at v image in
     record {
       within = let l = length-append rows more in omega arith;
       met = met_behind v image lists starts rows more n visits.method under.met visits.at visits.met;
-      bodies_are = subst (λ l. AllZip (IsBody v image) l (bodies ++ whole ∷ [])) (sym next) (zip_next (IsBody v image) (take n rows) bodies visits.method whole under.bodies_are visits.body);
+      known_is = is;
       targets_are = visits.targets_met ∙ ap (λ l. add_new l (find visits.method)) under.targets_are ∙ once_more [] (flat_map find (take n rows)) (find visits.method)
           ∙ ap each_once (sym (leads_on find rows more n visits.method visits.at));
       kept = kept;
     }
 
-pub under_way_next : (v : View) (image : pe.View) (lists : List (List ℕ)) (starts rows after targets after_targets : List ℕ) (bodies all : List Whole) (n : ℕ) (whole : Whole)
-    → AreUnderWay v image lists starts n rows targets bodies → Visits v image lists rows targets n after after_targets whole → AreKept v lists after after_targets → all ≡ bodies ++ whole ∷ []
-    → AreUnderWay v image lists starts (n + 1) after after_targets all
-under_way_next v image lists starts rows after targets after_targets bodies all n whole under visits kept e =
+pub under_way_next : (v : View) (image : pe.View) (lists : List (List ℕ)) (starts rows after targets after_targets : List ℕ) (known after_known : Known) (n : ℕ) → AreUnderWay v image lists starts n rows targets known
+    → Visits v image lists rows targets n after after_targets → AreKept v lists after after_targets → IsKnown v image (take (n + 1) after) after_known
+    → AreUnderWay v image lists starts (n + 1) after after_targets after_known
+under_way_next v image lists starts rows after targets after_targets known after_known n under visits kept knows =
     let behind = added_behind rows (calls_at v image lists visits.method) in
     let is : after ≡ rows ++ behind.0 = visits.met ∙ behind.1 in
-    subst (AreUnderWay v image lists starts (n + 1) after after_targets) (sym e)
-    (subst (λ l. AreUnderWay v image lists starts (n + 1) l after_targets (bodies ++ whole ∷ [])) (sym is)
-    (under_way_behind v image lists starts rows behind.0 targets after_targets bodies n whole under
-    (subst (λ l. Visits v image lists rows targets n l after_targets whole) is visits)
-    (subst (λ l. AreKept v lists l after_targets) is kept)))
+    subst (λ l. AreUnderWay v image lists starts (n + 1) l after_targets after_known) (sym is)
+    (under_way_behind v image lists starts rows behind.0 targets after_targets known after_known n under
+    (subst (λ l. Visits v image lists rows targets n l after_targets) is visits)
+    (subst (λ l. AreKept v lists l after_targets) is kept)
+    (subst (λ l. IsKnown v image (take (n + 1) l) after_known) is knows))
 
 -- all are looked at
-pub reached : (v : View) (image : pe.View) (lists : List (List ℕ)) (starts rows targets : List ℕ) (bodies : List Whole) (n : ℕ) (result : Reached) → AreUnderWay v image lists starts n rows targets bodies → length rows ≤ n
-    → result.rows ≡ rows → result.bodies ≡ bodies → result.virtual_targets ≡ targets → IsReached v image lists starts result
-reached v image lists starts rows targets bodies n result under end e f g =
+pub reached : (v : View) (image : pe.View) (lists : List (List ℕ)) (starts rows targets : List ℕ) (known : Known) (n : ℕ) (result : Reached) → AreUnderWay v image lists starts n rows targets known → length rows ≤ n
+    → result.rows ≡ rows → result.bodies ≡ known.bodies → result.virtual_targets ≡ targets → IsReached v image lists starts result
+reached v image lists starts rows targets known n result under end e f g =
     let count : n ≡ length rows = let within = under.within in omega arith in
     let all : take n rows ≡ rows = take_all n rows end in
     record {
       met = subst (λ l. AreMet v image lists starts (length l) l) (sym e) (subst (λ m. AreMet v image lists starts m rows) count under.met);
-      bodies = subst (λ l. AllZip (IsBody v image) l result.bodies) (sym e) (subst (AllZip (IsBody v image) rows) (sym f) (subst (λ l. AllZip (IsBody v image) l bodies) all under.bodies_are));
+      bodies = subst (λ l. AllZip (IsBody v image) l result.bodies) (sym e) (subst (AllZip (IsBody v image) rows) (sym f) (subst (λ l. AllZip (IsBody v image) l known.bodies) all under.known_is.bodies));
       virtual_targets = g ∙ under.targets_are ∙ ap (λ l. each_once (flat_map (virtual_targets_at v image) l)) (all ∙ sym e);
     }
 
@@ -153,9 +141,9 @@ reached v image lists starts rows targets bodies n result under end e f g =
 read_ok : (v : View) (image : pe.View) (method : ℕ) (whole : Whole) → IsBody v image method whole → IsOk (whole_at v image method)
 read_ok v image method whole is = subst IsOk (sym is.read) refl
 
-first_refused : (v : View) (image : pe.View) (lists : List (List ℕ)) (starts rows targets : List ℕ) (bodies : List Whole) (n number : ℕ) (fault : PlacedFault) → AreUnderWay v image lists starts n rows targets bodies
+first_refused : (v : View) (image : pe.View) (lists : List (List ℕ)) (starts rows targets : List ℕ) (known : Known) (n number : ℕ) (fault : PlacedFault) → AreUnderWay v image lists starts n rows targets known
     → Refuses v image rows n number fault → IsFirstRefused v image lists starts number fault
-first_refused v image lists starts rows targets bodies n number fault under refuses =
+first_refused v image lists starts rows targets known n number fault under refuses =
     subst (λ m. IsFirstRefused v image lists starts m fault) (sym refuses.number_is)
     (record {
       rows = rows;
@@ -163,13 +151,13 @@ first_refused v image lists starts rows targets bodies n number fault under refu
       method = refuses.method;
       at = refuses.at;
       refused = refuses.refused;
-      first = λ k other less at. let is = zip_at (IsBody v image) (take n rows) bodies k other under.bodies_are (in_front n rows k other less at) in read_ok v image other is.0 is.1;
+      first = λ k other less at. let is = zip_at (IsBody v image) (take n rows) known.bodies k other under.known_is.bodies (in_front n rows k other less at) in read_ok v image other is.0 is.1;
     })
 
-pub blamed : (v : View) (image : pe.View) (lists : List (List ℕ)) (starts rows targets : List ℕ) (bodies : List Whole) (n : ℕ) (fault : ReachFault) → AreUnderWay v image lists starts n rows targets bodies
+pub blamed : (v : View) (image : pe.View) (lists : List (List ℕ)) (starts rows targets : List ℕ) (known : Known) (n : ℕ) (fault : ReachFault) → AreUnderWay v image lists starts n rows targets known
     → IsRefused v image rows n fault → Blames v image lists starts fault
-blamed v image lists starts rows targets bodies n faults.Memory under is = tt
-blamed v image lists starts rows targets bodies n (faults.Bad kind at number) under is = first_refused v image lists starts rows targets bodies n number (kind, at) under is
+blamed v image lists starts rows targets known n faults.Memory under is = tt
+blamed v image lists starts rows targets known n (faults.Bad kind at number) under is = first_refused v image lists starts rows targets known n number (kind, at) under is
 
 -- a fault that is handed on
 pub handed_on : {T E : Type 0} (P : E → Type 0) (r : Result T E) (e f : E) → r ≡ Err e → e ≡ f → P f → IfErr r P

@@ -1,5 +1,5 @@
 -- The methods that a program has: those that it starts with, and all that calls and overriding reach.
-use Rattle.std.specs.Prelude.{◌≡◌, ◌≢◌, ℕ, ◌<◌, ◌%◌, ◌^◌, ◌==◌, Bool, true, if◌then◌else◌, List, [], ◌∷◌, ◌++◌, length, take, Option, Some, Result, Ok, Err, IsOk, slice_get}
+use Rattle.std.specs.Prelude.{◌≡◌, ◌≢◌, ℕ, ◌<◌, ◌%◌, ◌^◌, ◌==◌, true, if◌then◌else◌, List, [], ◌∷◌, ◌++◌, length, take, Option, Some, Result, Ok, Err, IsOk, slice_get}
 use Rattle.std.specs.List.{AllZip, flat_map}
 use Rattle.px_code.specs.Body.{IsFormed}
 use Rattle.px_code.specs.Reading.{PlacedFault}

@@ -127,6 +127,14 @@ fn no_body(alloc: Global) -> Whole
     }
 }
 
+/// Where the body of a method stands, by the method's row: its address in memory, or 0 where it has none.
+pub fn address_of(tables: &Tables, method: u32) -> u32
+    requires { IsRow tables.now methods method }
+    ensures { result ≡ cell tables.now methods method 0 }
+{
+    tables.row(METHODS, method).cells[0]
+}
+
 /// The body of a method, by its row.
 pub fn whole_at(
     alloc: Global,
@@ -138,7 +146,7 @@ pub fn whole_at(
     ensures exact { Gives (λ whole. whole) result (whole_at tables.now image.now method) }
     ensures formed { IfOk result (λ whole. cell tables.now methods method 0 ≢ 0 → IsFormed whole.body) }
 {
-    let rva = tables.row(METHODS, method).cells[0];
+    let rva = address_of(tables, method);
     if rva == 0 {
         return Ok(no_body(alloc));
     }

@@ -3,6 +3,7 @@
 
 mod body;
 mod found;
+mod known;
 mod methods;
 mod order;
 mod overriding;

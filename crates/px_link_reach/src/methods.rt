@@ -1,15 +1,17 @@
 // All methods that calls and overriding reach.
-ghost use Rattle.std.specs.Prelude.{◌≡◌, ◌<◌, ◌^◌, length, IfOk, IfErr};
+ghost use Rattle.std.specs.Prelude.{◌≡◌, ◌+◌, ◌<◌, ◌^◌, length, take, IfOk, IfErr, OnOk};
 ghost use Rattle.std.specs.List.{AllByRecursion};
-ghost use Rattle.px_link_reach.specs.Finding.{AreKept, IsRefused, Visits, refused_by};
+ghost use Rattle.px_link_reach.specs.Finding.{AreCalled, AreKept, IsKnown, IsRefused, Visits, refused_by};
 ghost use Rattle.px_link_reach.specs.Met.{Blames, IsOwned, IsReached};
 
-use crate::body::{Whole, whole_at};
+use crate::body::{Whole, address_of, whole_at};
 use crate::found::Found;
+use crate::known::Known;
 use crate::overriding::Overriding;
 use px_code::{BodyFault, BodyKind};
 use px_link_tokens::Tokens;
 use px_pe::Image;
+use px_shared::Shared;
 use sqlite_items::Items;
 use std::alloc::{AllocError, AllocFailed, Global};
 
@@ -48,7 +50,7 @@ impl<T: Drop> From<AllocFailed<T>> for ReachFault {
 #[derive(Drop)]
 pub struct Reached {
     pub rows: Items<u32>,
-    pub bodies: Items<Whole>,
+    pub bodies: Items<Shared<Whole>>,
     pub virtual_targets: Items<u32>,
 }
 
@@ -66,27 +68,37 @@ fn refused_by(fault: BodyFault, number: u32) -> ReachFault
     }
 }
 
-// Reads the body of the method of a number, and adds what it calls.
+// Looks at the method of a number: adds its body, and what it calls. What a body at an address that was read before calls is met already.
 fn visit(
     alloc: Global,
     tokens: &Tokens,
     overriding: &Overriding,
     image: &Image,
     found: &mut Found,
+    known: &mut Known,
     number: u32,
-) -> Result<Whole, ReachFault>
+) -> Result<(), ReachFault>
     requires same { overriding.now.tables ≡ tokens.now }
     requires kept { AreKept tokens.now overriding.now.lists found.old.rows.keys found.old.virtual_targets.keys }
     requires number { number < length found.old.rows.keys }
-    ensures visits { IfOk result (Visits tokens.now image.now overriding.now.lists found.old.rows.keys found.old.virtual_targets.keys number found.new.rows.keys found.new.virtual_targets.keys) }
-    ensures kept { IfOk result (λ _. AreKept tokens.now overriding.now.lists found.new.rows.keys found.new.virtual_targets.keys) }
+    requires known { IsKnown tokens.now image.now (take number found.old.rows.keys) known.old }
+    requires called { AreCalled tokens.now image.now overriding.now.lists (take number found.old.rows.keys) found.old.rows.keys found.old.virtual_targets.keys }
+    ensures visits { OnOk result (Visits tokens.now image.now overriding.now.lists found.old.rows.keys found.old.virtual_targets.keys number found.new.rows.keys found.new.virtual_targets.keys) }
+    ensures kept { OnOk result (AreKept tokens.now overriding.now.lists found.new.rows.keys found.new.virtual_targets.keys) }
+    ensures known { OnOk result (IsKnown tokens.now image.now (take (number + 1) found.new.rows.keys) known.new) }
     ensures refused { IfErr result (IsRefused tokens.now image.now found.old.rows.keys number) }
 {
     let method = found.rows.as_slice()[number as usize];
+    let address = address_of(tokens.meta().tables(), method);
+    if let Some(whole) = known.share_at(address)? {
+        known.bodies.push(whole)?;
+        return Ok(());
+    }
     match whole_at(alloc, tokens.meta().tables(), image, method) {
         Ok(whole) => {
             found.add_code(tokens, overriding, whole.body.code.as_slice())?;
-            Ok(whole)
+            known.add_first(alloc, address, whole)?;
+            Ok(())
         }
         Err(fault) => Err(refused_by(fault, number)),
     }
@@ -110,16 +122,17 @@ pub fn reach(
     ensures fault { IfErr result (Blames tokens.now image.now overriding.now.lists starts.now) }
 {
     let mut found = Found::new(alloc, starts)?;
-    let mut bodies = Items::new(alloc);
+    let mut known = Known::new(alloc);
     let mut number = 0;
     while (number as usize) < found.rows.len() {
-        let whole = visit(alloc, tokens, overriding, image, &mut found, number)?;
-        bodies.push(whole)?;
+        visit(
+            alloc, tokens, overriding, image, &mut found, &mut known, number,
+        )?;
         number += 1;
     }
     Ok(Reached {
         rows: Items::from_slice(alloc, found.rows.as_slice())?,
-        bodies,
+        bodies: known.bodies,
         virtual_targets: Items::from_slice(alloc, found.virtual_targets.as_slice())?,
     })
 }

@@ -1,11 +1,12 @@
 -- The program of one method is well formed.
-use Rattle.std.proofs.Common.{◌≡◌, ℕ, List, [], ◌∷◌, Some, refl, sym, subst, arith, rules, map}
+use Rattle.std.proofs.Common.{◌≡◌, ℕ, List, [], ◌∷◌, Some, None, refl, ap, sym, subst, ◌∙◌, arith, rules, map}
 use Rattle.std.specs.Prelude.{slice_get}
 use Rattle.std.specs.List.{AllByRecursion}
-use Rattle.px_program.specs.Alone.{alone, array_of, types_with}
+use Rattle.px_program.specs.Alone.{alone, array_of, no_layout, types_with}
 use Rattle.px_program.specs.Formed.{CanBegin, IsFormedIn, IsInteger, IsWellFormed, Overrides}
 use Rattle.px_program.specs.Library.{library_types}
 use Rattle.px_program.specs.Overriding.{AreByFirst}
+use Rattle.px_program.specs.declared.program.Layout.{Layout}
 use Rattle.px_program.specs.declared.program.Method.{Method}
 use Rattle.px_program.specs.declared.program.Place.{Place}
 use Rattle.px_program.specs.declared.program.Program.{Program}
@@ -47,3 +48,10 @@ alone_formed elements method integers begins formed =
 
 pub formed_where_alone : (elements : List Place) (method : Method) (program : Program) → AllByRecursion IsInteger elements → CanBegin (alone elements method) method → IsFormedIn (alone elements method) method → program ≡ alone elements method → IsWellFormed program
 formed_where_alone elements method program integers begins formed is = subst IsWellFormed (sym is) (alone_formed elements method integers begins formed)
+
+-- a program of these parts is that of the method alone
+pub alone_of : (elements : List Place) (method : Method) (types : List TypeInfo) (methods : List Method) (layout : Layout) → types ≡ types_with elements → methods ≡ method ∷ [] → layout ≡ no_layout → record { types = types; methods = methods; entry = 0; maker = None; layout = layout } ≡ alone elements method
+alone_of elements method types methods layout same_types same_methods same_layout =
+    ap (λ (it : List TypeInfo). record { types = it; methods = methods; entry = 0; maker = None; layout = layout }) same_types
+    ∙ ap (λ (it : List Method). record { types = types_with elements; methods = it; entry = 0; maker = None; layout = layout }) same_methods
+    ∙ ap (λ (it : Layout). record { types = types_with elements; methods = method ∷ []; entry = 0; maker = None; layout = it }) same_layout

@@ -1,7 +1,8 @@
 -- Well-formed programs: their numbers name what is there, their chains of types end, and their instructions lead to instructions.
-use Rattle.std.specs.Prelude.{◌≡◌, ◌≢◌, ◌⊎◌, ℕ, zero, suc, ◌<◌, ◌^◌, List, [], ◌∷◌, ◌==◌, ◌&&◌, ◌||◌, Bool, true, false, if◌then◌else◌, Option, Some, None, IsSome, IfSome, length, map, take, slice_get, find}
+use Rattle.std.specs.Prelude.{◌≡◌, ◌≢◌, ◌⊎◌, ℕ, ◌<◌, ◌^◌, List, [], ◌∷◌, ◌==◌, ◌&&◌, ◌||◌, Bool, true, false, if◌then◌else◌, Option, Some, None, IsSome, IfSome, length, map, take, slice_get, find}
 use Rattle.std.specs.List.{AllByRecursion, list_all, list_any}
 use Rattle.px_program.specs.Library.{library_types}
+pub use Rattle.px_program.specs.Lines.{DerivesFrom, HasEnd, IsBehind, IsChain, IsKindOf, base_in, base_of}
 use Rattle.px_program.specs.Overriding.{AreByFirst}
 use Rattle.px_program.specs.declared.instr.Instr.{Instr}
 use Rattle.px_program.specs.declared.instr.Callee.{Callee}
@@ -63,14 +64,6 @@ pub record IsFormed (method : Method) : Type 0 where
 
 -- TYPES
 
-abbrev pub base_in : Option TypeInfo → Option ℕ
-base_in None = None
-base_in (Some type) = type.base
-
--- the base of a type
-abbrev pub base_of : List TypeInfo → ℕ → Option ℕ
-base_of types type = base_in (slice_get types type)
-
 abbrev pub type_in : Option Place → Option ℕ
 type_in (Some (places.Ref type)) = Some type
 type_in _ = None
@@ -82,30 +75,6 @@ element_in (Some type) = type_in type.element
 -- the type of an array's elements, where these are references
 abbrev pub element_of : List TypeInfo → ℕ → Option ℕ
 element_of types type = element_in (slice_get types type)
-
--- the numbers behind a number in its chain, in order; a chain that comes back to some number has no such list
-abbrev pub IsChain : (ℕ → Option ℕ) → ℕ → List ℕ → Type 0
-IsChain next type [] = next type ≡ None
-IsChain next type (behind ∷ rest) = (next type ≡ Some behind) × IsChain next behind rest
-
-pub record HasEnd (next : ℕ → Option ℕ) (type : ℕ) : Type 0 where
-  pub behind : List ℕ
-  pub chain : IsChain next type behind
-
--- the second number is so many steps behind the first
-abbrev pub IsBehind : (ℕ → Option ℕ) → ℕ → ℕ → ℕ → Type 0
-IsBehind next zero type other = type ≡ other
-IsBehind next (suc n) type other = (between : ℕ) × (next type ≡ Some between) × IsBehind next n between other
-
--- a type is another, or has it among its bases
-pub record IsKindOf (types : List TypeInfo) (type other : ℕ) : Type 0 where
-  pub steps : ℕ
-  pub way : IsBehind (base_of types) steps type other
-
--- a type has another among its bases
-pub record DerivesFrom (types : List TypeInfo) (type other : ℕ) : Type 0 where
-  pub steps : ℕ
-  pub way : IsBehind (base_of types) (suc steps) type other
 
 -- a place that holds no reference to a type that isn't there
 abbrev pub FitsPlace : List TypeInfo → Place → Type 0

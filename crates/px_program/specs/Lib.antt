@@ -1,8 +1,11 @@
+pub mod Alike
 pub mod Alone
 pub mod Arguments
 pub mod Fields
+pub mod Bases
 pub mod Formed
 pub mod Kinds
 pub mod Library
+pub mod Lines
 pub mod Overriding
 pub mod Paths

@@ -1,18 +1,11 @@
-// Bases of types, and which references may stand for which.
+// Which references may stand for which.
 ghost use Rattle.std.specs.Prelude.{◌≡◌, ◌↔◌, ℕ, IsTrue};
-ghost use Rattle.px_program.specs.Formed.{AreTypes, IsKindOf, base_of, element_of};
+ghost use Rattle.px_program.specs.Formed.{AreTypes, element_of};
 ghost use Rattle.px_program.specs.Kinds.{Fits};
 
 use crate::{Place, Program};
 
 impl Program {
-    /// The base of a type, where it has one: Partition I, 8.9.9.
-    pub fn base_of(&self, type_number: u32) -> Option<u32>
-        ensures { result ≡ base_of self.now.types type_number }
-    {
-        self.types.get(type_number as usize)?.base
-    }
-
     // The type of an array's elements, where these are references.
     fn element_of(&self, type_number: u32) -> Option<u32>
         ensures { result ≡ element_of self.now.types type_number }
@@ -21,21 +14,6 @@ impl Program {
             Some(Place::Ref(element)) => Some(element),
             _ => None,
         }
-    }
-
-    /// Whether a type is another or has it among its bases: Partition I, 8.9.9.
-    pub fn is_kind_of(&self, type_number: u32, other: u32) -> bool
-        requires types { AreTypes self.now.types }
-        ensures { IsTrue result ↔ IsKindOf self.now.types type_number other }
-    {
-        let mut at = type_number;
-        while at != other {
-            match self.base_of(at) {
-                Some(base) => at = base,
-                None => return false,
-            }
-        }
-        true
     }
 
     /// Whether a reference of a type may stand where one of another is asked for. The other is `Object`, or the type itself or one of its bases, or both are

@@ -4,7 +4,7 @@ ghost use Rattle.px_program.specs.Alone.{no_layout};
 ghost use Rattle.px_program.specs.Arguments.{arguments_of};
 ghost use Rattle.px_program.specs.Formed.{all_params};
 
-use crate::Instr;
+use crate::{Instr, MethodTable, TypeTable};
 use px_shared::SharedList;
 use sqlite_items::Items;
 use std::alloc::Global;
@@ -126,8 +126,8 @@ impl Layout {
 /// A program: a run begins with the method numbered `entry`, after `maker` on a new object where there is one.
 #[derive(Drop)]
 pub struct Program {
-    pub types: Items<TypeInfo>,
-    pub methods: Items<Method>,
+    pub types: TypeTable,
+    pub methods: MethodTable,
     pub entry: u32,
     pub maker: Option<u32>,
     pub layout: Layout,

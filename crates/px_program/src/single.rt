@@ -4,7 +4,7 @@ ghost use Rattle.std.specs.List.{AllByRecursion};
 ghost use Rattle.px_program.specs.Alone.{alone, array_of, types_with};
 ghost use Rattle.px_program.specs.Formed.{CanBegin, IsFormedIn, IsInteger, IsWellFormed};
 
-use crate::{Layout, Method, Place, Program, TypeInfo, library_types};
+use crate::{Layout, Method, MethodTable, Place, Program, TypeInfo, TypeTable, library_types};
 use sqlite_items::Items;
 use std::alloc::{AllocError, Global};
 
@@ -41,12 +41,12 @@ pub fn alone(alloc: Global, elements: &[Place], method: Method) -> Result<Progra
     ensures program { IfOk result (λ program. program ≡ alone elements.now method) }
     ensures well_formed { IfOk result IsWellFormed }
 {
-    let types = types_with(alloc, elements)?;
-    let mut methods = Vec::new(alloc);
+    let types = TypeTable::new(alloc, types_with(alloc, elements)?)?;
+    let mut methods = MethodTable::new(alloc);
     methods.push(method)?;
     Ok(Program {
         types,
-        methods: Items::from_vec(methods),
+        methods,
         entry: 0,
         maker: None,
         layout: Layout::empty(alloc),

@@ -3,10 +3,7 @@ use Rattle.std.proofs.Common.{◌≡◌, Bool, true, false, ◌&&◌, ◌||◌, 
 use Rattle.std.specs.Prelude.{find}
 use Rattle.std.specs.List.{AllByRecursion, flat_map, list_all, list_any}
 use Rattle.px_program.proofs.Types.{each-append}
-
-pub by_bool : (P : Bool → Type 0) (b : Bool) → (b ≡ true → P true) → (b ≡ false → P false) → P b
-by_bool P true where_true where_false = where_true refl
-by_bool P false where_true where_false = where_false refl
+pub use Rattle.px_verify_kinds.proofs.Lines.{by_bool}
 
 pub by_option : {X : Type 0} (P : Option X → Type 0) (o : Option X) → (o ≡ None → P None) → ((x : X) → o ≡ Some x → P (Some x)) → P o
 by_option P None where_none where_some = where_none refl

@@ -1,3 +1,4 @@
+pub mod Alike
 pub mod Clashing
 pub mod Finding
 pub mod Giving
@@ -6,3 +7,4 @@ pub mod One
 pub mod Places
 pub mod Soundness
 pub mod Standing
+pub mod Tables

@@ -6,6 +6,7 @@ mod clashes;
 mod fault;
 mod judge;
 mod law;
+mod numbering;
 mod verified;
 
 pub use check::verify;

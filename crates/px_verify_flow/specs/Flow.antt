@@ -26,7 +26,7 @@ abbrev pub returns : Code → Bool
 returns codes.Return = true
 returns _ = false
 
--- a `ret` in a clause's range, or on another stack than what is returned
+-- a `ret` in the range or the block of a clause, or on another stack than what is returned
 abbrev pub is_bad_return : Program → Method → Instr → List Kind → Bool
 is_bad_return program method i stack = returns i.code && (not (is_returned program.types method.ret stack) || list_any (is_around i.offset) method.clauses)
 

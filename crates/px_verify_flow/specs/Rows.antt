@@ -108,8 +108,9 @@ compare_row test signed stack =
 abbrev pub branch_compare_row : Test → List Kind → Outcome
 branch_compare_row test stack = on_pop stack (λ second rest. on_pop rest (λ first below. need (can_compare (is_equality test) first second) faults.Mismatch (Ok below)))
 
-abbrev pub branch_truth_row : List Kind → Outcome
-branch_truth_row stack = on_pop stack (λ value below. Ok below)
+-- a value of any kind is taken
+abbrev pub drop_row : List Kind → Outcome
+drop_row stack = on_pop stack (λ value below. Ok below)
 
 -- `switch` and the calls that check a truth value
 abbrev pub int32_row : List Kind → Outcome
@@ -139,7 +140,7 @@ move_row types method (moves.Constant64 pattern) stack = Ok (kinds.L ∷ stack)
 move_row types method moves.Null stack = Ok (kinds.Null ∷ stack)
 move_row types method (moves.Text text) stack = Ok (kinds.Ref 17 ∷ stack)
 move_row types method moves.Duplicate stack = on_pop stack (λ value below. Ok (value ∷ value ∷ below))
-move_row types method moves.Pop stack = on_pop stack (λ value below. Ok below)
+move_row types method moves.Pop stack = drop_row stack
 
 -- ARRAYS
 
@@ -334,7 +335,7 @@ effect program method (codes.Convert to) stack = convert_row to stack
 effect program method (codes.ConvertChecked to signed) stack = convert_row to stack
 effect program method (codes.Compare test signed) stack = compare_row test signed stack
 effect program method (codes.Branch target) stack = Ok stack
-effect program method (codes.BranchTruth when target) stack = branch_truth_row stack
+effect program method (codes.BranchTruth when target) stack = drop_row stack
 effect program method (codes.BranchCompare test signed target) stack = branch_compare_row test stack
 effect program method (codes.Switch targets) stack = int32_row stack
 effect program method (codes.NewArray type) stack = new_array_row type stack

@@ -65,7 +65,7 @@ pub fn effect(
             numbers::convert_row(stacks, *to, stack)
         }
         Code::Compare { test, signed } => comparisons::compare_row(stacks, *test, *signed, stack),
-        Code::BranchTruth { .. } => comparisons::branch_truth_row(stacks, stack),
+        Code::BranchTruth { .. } => comparisons::drop_row(stacks, stack),
         Code::BranchCompare { test, .. } => {
             comparisons::branch_compare_row(stacks, *test, stack)
         }

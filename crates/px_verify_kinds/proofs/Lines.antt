@@ -1,10 +1,12 @@
 -- A type's line is the type and the chain of its bases.
 use Rattle.std.proofs.Common.{◌≡◌, ◌⊎◌, inl, inr, ℕ, zero, suc, ◌<◌, ◌≤◌, List, [], ◌∷◌, Option, Some, None, Bool, true, false, refl, sym, ap, ◌∙◌, subst, arith, length}
 use Rattle.std.specs.Prelude.{◌==◌, ◌||◌, ◌↔◌, IsTrue, slice_get}
+use Rattle.px_program.specs.Bases.{HasBases, IsNearestBase}
 use Rattle.px_program.specs.Formed.{AreTypes, IsBehind, IsChain, IsKindOf, base_in, base_of, element_in, element_of}
 use Rattle.px_program.specs.Kinds.{Fits, FitsWithin}
 use Rattle.px_program.specs.declared.program.TypeInfo.{TypeInfo}
-use Rattle.px_program.proofs.Fitting.{fits_back, fits_kind, fits_object}
+use Rattle.px_program.proofs.Fitting.{fits_back, fits_kind, fits_object, kind_ends, kind_of_base, kind_of_itself, kind_on, kind_through}
+use Rattle.px_program.proofs.Leaps.{base_is_one, count_falls, ended_count}
 use Rattle.px_program.proofs.Walks.{chain_is_one, chain_is_short}
 use Rattle.px_verify_kinds.specs.declared.kind.Kind.{Kind}
 use Rattle.px_verify_kinds.specs.declared.kind.Kind.TheVariants as kinds
@@ -172,18 +174,57 @@ nearest_on type bases others apart = rw apart refl
 nearest_here : (type : ℕ) (bases others : List ℕ) → is_in others type ≡ true → nearest (type ∷ bases) others ≡ type
 nearest_here type bases others here = rw here refl
 
-pub answer_apart : (types : List TypeInfo) → AreTypes types → (type other : ℕ) (answer : Bool) → (IsTrue answer ↔ IsKindOf types type other) → (answer ≡ true → ⊥) → is_kind_of types type other ≡ false
-answer_apart types are type other answer tells wrong = by_bool (λ b. is_kind_of types type other ≡ b → is_kind_of types type other ≡ false) (is_kind_of types type other) (λ kind h. absurd (wrong (tells.1 (kind_is types are type other kind)))) (λ apart h. apart) refl
-
--- a step to a base leaves what is looked for
-pub walk_on : (types : List TypeInfo) → AreTypes types → (at base other : ℕ) → base_of types at ≡ Some base → is_kind_of types other at ≡ false → nearest (line_of types base) (line_of types other) ≡ nearest (line_of types at) (line_of types other)
-walk_on types are at base other goes apart = sym (ap (λ line. nearest line (line_of types other)) (line_step types are at base goes) ∙ nearest_on at (line_of types base) (line_of types other) apart)
-
-pub walk_ends : (types : List TypeInfo) → AreTypes types → (at other : ℕ) → base_of types at ≡ None → is_kind_of types other at ≡ false → nearest (line_of types at) (line_of types other) ≡ 0
-walk_ends types are at other ends apart = ap (λ line. nearest line (line_of types other)) (line_last types are at ends) ∙ nearest_on at [] (line_of types other) apart
-
 pub walk_finds : (types : List TypeInfo) → AreTypes types → (at other : ℕ) → is_kind_of types other at ≡ true → nearest (line_of types at) (line_of types other) ≡ at
 walk_finds types are at other here = ap (λ line. nearest line (line_of types other)) (line_is types are at) ∙ nearest_here at (are.bases at).behind (line_of types other) here
+
+-- THE NEAREST
+
+-- kinds of each other are one type
+kinds_one : (types : List TypeInfo) → AreTypes types → (type other : ℕ) → IsKindOf types type other → IsKindOf types other type → type ≡ other
+kinds_one types are type other kind back =
+    let has = ended_count types type (are.bases type) in
+    let has_too = ended_count types other (are.bases other) in
+    let less : has_too.0 ≤ has.0 = count_falls types type other has.0 has_too.0 has.1 kind has_too.1 in
+    let more : has.0 ≤ has_too.0 = count_falls types other type has_too.0 has.0 has_too.1 back has.1 in
+    let even : has_too.0 ≡ has.0 = omega (arith, less, more) in
+    base_is_one types type type other has.0 has.0 has.1 (kind_of_itself types type) kind has.1 (subst (HasBases types other) even has_too.1)
+
+nearest_along : (types : List TypeInfo) → AreTypes types → (other base at : ℕ) (xs : List ℕ) → IsChain (base_of types) at xs → IsKindOf types at base → IsKindOf types other base → ((further : ℕ) → IsKindOf types at further → IsKindOf types other further → IsKindOf types base further)
+    → nearest (at ∷ xs) (line_of types other) ≡ base
+nearest_along types are other base at [] chain kind shared nearer =
+    let ends : base_of types at ≡ None = chain in
+    let same : at ≡ base = kind_ends types at base ends kind in
+    nearest_here at [] (line_of types other) (is_kind types are other at (subst (IsKindOf types other) (sym same) shared)) ∙ same
+nearest_along types are other base at (x ∷ xs) chain kind shared nearer = by_bool (λ b. is_kind_of types other at ≡ b → nearest (at ∷ x ∷ xs) (line_of types other) ≡ base) (is_kind_of types other at)
+    (λ _ here.
+    let back : IsKindOf types base at = nearer at (kind_of_itself types at) (kind_is types are other at here) in
+    nearest_here at (x ∷ xs) (line_of types other) here ∙ kinds_one types are at base kind back)
+    (λ _ apart.
+    let differ : at ≡ base → ⊥ = λ same. let here : is_kind_of types other at ≡ true = is_kind types are other at (subst (IsKindOf types other) (sym same) shared) in absurd (cc) in
+    nearest_on at (x ∷ xs) (line_of types other) apart
+    ∙ nearest_along types are other base x xs chain.1 (kind_on types at x base chain.0 differ kind) shared (λ further of_x of_other. nearer further (kind_through types at x further (kind_of_base types at x chain.0) of_x) of_other))
+    refl
+
+none_along : (types : List TypeInfo) → AreTypes types → (other at : ℕ) (xs : List ℕ) → IsChain (base_of types) at xs → ((base : ℕ) → IsKindOf types at base → IsKindOf types other base → ⊥) → nearest (at ∷ xs) (line_of types other) ≡ 0
+none_along types are other at [] chain none = by_bool (λ b. is_kind_of types other at ≡ b → nearest (at ∷ []) (line_of types other) ≡ 0) (is_kind_of types other at)
+    (λ _ here. absurd (none at (kind_of_itself types at) (kind_is types are other at here)))
+    (λ _ apart. nearest_on at [] (line_of types other) apart)
+    refl
+none_along types are other at (x ∷ xs) chain none = by_bool (λ b. is_kind_of types other at ≡ b → nearest (at ∷ x ∷ xs) (line_of types other) ≡ 0) (is_kind_of types other at)
+    (λ _ here. absurd (none at (kind_of_itself types at) (kind_is types are other at here)))
+    (λ _ apart. nearest_on at (x ∷ xs) (line_of types other) apart ∙ none_along types are other x xs chain.1 (λ base kind shared. none base (kind_through types at x base (kind_of_base types at x chain.0) kind) shared))
+    refl
+
+-- the nearest base of both is the one of which all others are bases; without one it is `Object`
+pub common_is : (types : List TypeInfo) → AreTypes types → (type other base : ℕ) → IsNearestBase types type other base → base ≡ common types type other
+common_is types are type other base is =
+    let end = are.bases type in
+    sym (ap (λ line. nearest line (line_of types other)) (line_is types are type) ∙ nearest_along types are other base type end.behind end.chain is.of_one is.of_other is.nearest)
+
+pub common_none : (types : List TypeInfo) → AreTypes types → (type other : ℕ) → ((base : ℕ) → IsKindOf types type base → IsKindOf types other base → ⊥) → 0 ≡ common types type other
+common_none types are type other none =
+    let end = are.bases type in
+    sym (ap (λ line. nearest line (line_of types other)) (line_is types are type) ∙ none_along types are other type end.behind end.chain none)
 
 -- references fit by their types
 pub fits_refs : (types : List TypeInfo) → AreTypes types → (kind wanted : Kind) (type other : ℕ) (answer : Bool) → kind ≡ kinds.Ref type → wanted ≡ kinds.Ref other → (IsTrue answer ↔ Fits types type other) → answer ≡ kinds_fit types kind wanted

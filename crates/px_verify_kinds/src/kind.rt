@@ -50,14 +50,10 @@ fn common(program: &Program, class: u32, other: u32) -> u32
     requires types { AreTypes program.now.types }
     ensures { result ≡ common program.now.types class other }
 {
-    let mut at = class;
-    while !program.is_kind_of(other, at) {
-        match program.base_of(at) {
-            Some(base) => at = base,
-            None => return 0,
-        }
+    match program.common_base(class, other) {
+        Some(base) => base,
+        None => 0,
     }
-    at
 }
 
 /// What a kind that stands becomes where another one comes to it: Partition III, 1.8.1.3. None where they don't merge.

@@ -6,6 +6,6 @@ mod rounds;
 mod typing;
 mod worklist;
 
-pub use offsets::instr_at;
+pub use offsets::{end_of, instr_at};
 pub use rounds::typing_of;
 pub use typing::{Given, Typing};

@@ -18,7 +18,7 @@ pub fn instr_at(method: &Method, at: u32) -> Option<&Instr>
 }
 
 /// The offset behind the last instruction.
-pub(crate) fn end_of(code: &[Instr]) -> u32
+pub fn end_of(code: &[Instr]) -> u32
     ensures { result ≡ end_of code.now }
 {
     match code.last() {

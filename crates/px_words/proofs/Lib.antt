@@ -1,3 +1,4 @@
 pub mod Fits
+pub mod Numbers
 pub mod Ones
 pub mod Widened

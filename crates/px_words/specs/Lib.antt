@@ -1,2 +1,3 @@
 pub mod Operator
+pub mod Readings
 pub mod Word

@@ -8,6 +8,7 @@ ghost use Rattle.px_words.specs.Word.{word};
 mod arithmetic;
 mod division;
 mod extension;
+mod law;
 mod overflow;
 mod shift;
 mod width;
@@ -15,6 +16,7 @@ mod width;
 use arithmetic::{difference, negated, product, sum};
 use division::{quotient, remainder, signed_quotient, signed_remainder};
 use extension::{sign_extended, zero_extended};
+pub use law::{arithmetic_is_exact, extensions_keep_numbers};
 use overflow::{
     difference_overflows_signed, product_overflows, product_overflows_signed, sum_overflows,
     sum_overflows_signed,

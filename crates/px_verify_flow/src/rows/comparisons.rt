@@ -1,7 +1,7 @@
 // Comparisons, and branches by what is on the stack: Partition III, 1.5.
 ghost use Rattle.std.specs.Prelude.{◌≡◌};
 ghost use Rattle.px_verify_flow.specs.Outcome.{Gives};
-ghost use Rattle.px_verify_flow.specs.Rows.{branch_compare_row, branch_truth_row, can_compare, compare_row, int32_row, is_above, is_equality, is_int32, is_reference};
+ghost use Rattle.px_verify_flow.specs.Rows.{branch_compare_row, drop_row, can_compare, compare_row, int32_row, is_above, is_equality, is_int32, is_reference};
 ghost use Rattle.px_verify_kinds.specs.Stacks.{Extends, IsStack, kinds_of};
 
 use super::numbers::binary_kind;
@@ -74,10 +74,10 @@ pub fn branch_compare_row(stacks: &Stacks, test: Test, stack: Stack) -> Result<S
     Ok(below)
 }
 
-/// A branch by whether a value is zero or null.
-pub fn branch_truth_row(stacks: &Stacks, stack: Stack) -> Result<Stack, Stop>
+/// A value is taken, as by `pop` or a branch by whether it is zero or null.
+pub fn drop_row(stacks: &Stacks, stack: Stack) -> Result<Stack, Stop>
     requires { IsStack stacks.now stack }
-    ensures { Gives stacks.now result (branch_truth_row (kinds_of stacks.now stack)) }
+    ensures { Gives stacks.now result (drop_row (kinds_of stacks.now stack)) }
 {
     let (_, below) = pop(stacks, stack)?;
     Ok(below)

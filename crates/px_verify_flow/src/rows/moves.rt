@@ -5,7 +5,7 @@ ghost use Rattle.px_verify_flow.specs.Outcome.{Gives, on_pop};
 ghost use Rattle.px_verify_flow.specs.Rows.{fits_place, load_row, move_row, store_row};
 ghost use Rattle.px_verify_kinds.specs.Stacks.{Extends, IsStack, kinds_of};
 
-use super::comparisons::branch_truth_row;
+use super::comparisons::drop_row;
 use super::steps::{need, pop, push};
 use crate::{Stop, VerifyKind};
 use px_program::{Method, Move, Place, Program};
@@ -83,7 +83,7 @@ pub fn move_row(
         Move::Null => push(stacks, stack, Kind::Null),
         Move::Text(_) => push(stacks, stack, Kind::Ref(STRING)),
         Move::Duplicate => duplicate_row(stacks, stack),
-        Move::Pop => branch_truth_row(stacks, stack),
+        Move::Pop => drop_row(stacks, stack),
     }
 }
 

@@ -1,12 +1,14 @@
-use Rattle.std.proofs.Common.{length, sym, ap, ◌∙◌, subst}
-use Rattle.px_link_methods.specs.Methods.{met_by_all}
+use Rattle.std.proofs.Common.{sym, subst}
+use Rattle.px_link_methods.specs.Methods.{AreByAddress, met_by_all}
 use Rattle.px_link_types.specs.Numbers.{Numbers, library_keys}
-use Rattle.px_link.proofs.Reached.{as_many}
+use Rattle.px_link.proofs.Reached.{by_address}
 use Rattle.px_link.proofs.linked.program_of.Goals as goal
 
-pub types_met-requires-clause-pairs : goal.types_met-requires-clause-pairs
-types_met-requires-clause-pairs c =
-    ap length c.as_slice-bodies.ensures ∙ as_many c.args.tokens.now c.requires.reached.image c.args.overriding.now.lists _ c.args.reached.now c.requires.reached.is ∙ ap length (sym c.as_slice-rows.ensures)
+pub types_met-requires-clause-shared : goal.types_met-requires-clause-shared
+types_met-requires-clause-shared c =
+    let v = c.args.tokens.now in
+    subst (λ rows. AreByAddress v rows c.as_slice-bodies.result.now) (sym c.as_slice-rows.ensures)
+    (subst (λ bodies. AreByAddress v c.args.reached.now.rows bodies) (sym c.as_slice-bodies.ensures) (by_address v c.requires.reached.image c.args.overriding.now.lists _ c.args.reached.now c.requires.reached.is))
 
 pub program_with-requires-clause-numbers : goal.program_with-requires-clause-numbers
 program_with-requires-clause-numbers c =

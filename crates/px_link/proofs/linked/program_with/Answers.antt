@@ -2,15 +2,17 @@ use Rattle.std.proofs.Common.{◌≡◌, true, length, sym, ap, ◌∙◌, subst
 use Rattle.std.specs.Prelude.{◌==◌}
 use Rattle.std.specs.List.{AllByRecursion, IsDistinct, flat_map}
 use Rattle.px_meta.specs.Rows.{IsRow, is_in, methods}
-use Rattle.px_link_methods.specs.Methods.{AreMethods, met_by_all}
+use Rattle.px_link_methods.specs.Methods.{AreByAddress, met_by_all}
 use Rattle.px_link_reach.specs.Met.{IsOwned, target_of}
 use Rattle.px_link_reach.specs.declared.body.Whole.{Whole}
 use Rattle.px_link_types.specs.Numbers.{Numbers, library_keys}
 use Rattle.px_link.specs.Layout.{IsLayout}
 use Rattle.px_link.specs.Overrides.{in_order}
 use Rattle.px_link.specs.Parts.{HasTypes}
+use Rattle.px_program.specs.Lines.{HasEnd, base_of}
+use Rattle.px_link.proofs.LinkedTypes.{linked_types}
 use Rattle.px_link.proofs.Linking.{linked_from, met_numbered}
-use Rattle.px_link.proofs.Reached.{as_many, distinct, rows_in_order, targets_distinct, targets_in}
+use Rattle.px_link.proofs.Reached.{as_many, by_address, distinct, rows_in_order, targets_distinct, targets_in}
 use Rattle.px_link.proofs.linked.program_with.Goals as goal
 use Rattle.px_link.proofs.linked.program_with.Goals.{After-as_slice-bodies}
 
@@ -49,6 +51,12 @@ methods_of-requires-clause-distinct c = apart (goal.at.methods_of-requires-claus
 pub methods_of-requires-clause-pairs : goal.methods_of-requires-clause-pairs
 methods_of-requires-clause-pairs c = many (goal.at.methods_of-requires-clause-pairs c).After-as_slice-bodies
 
+pub methods_of-requires-clause-shared : goal.methods_of-requires-clause-shared
+methods_of-requires-clause-shared c =
+    let v = c.args.tokens.now in
+    subst (λ rows. AreByAddress v rows c.as_slice-bodies.result.now) (sym c.as_slice-rows.ensures)
+    (subst (λ bodies. AreByAddress v c.args.reached.now.rows bodies) (sym c.as_slice-bodies.ensures) (by_address v c.requires.reached.image c.args.overriding.now.lists _ c.args.reached.now c.requires.reached.is))
+
 pub methods_of-requires-clause-numbered : goal.methods_of-requires-clause-numbered
 methods_of-requires-clause-numbered c = met_numbered c.args.tokens.now library_keys _ c.args.types.now.keys (numbers (goal.at.methods_of-requires-clause-numbered c).After-as_slice-bodies)
 
@@ -67,11 +75,18 @@ returns c = λ image name is reached.
     let typed_in_order =
     subst (λ ts. HasTypes v (record { keys = c.args.types.now.keys; rows = c.as_slice-rows.result.now }) c.args.overriding.now.lists ts c.in_ok-infos.infos.items) (c.deref.ensures.value ∙ c.in_ok-targets.ensures) typed in
     let laid = subst (λ x. IsLayout x (record { keys = c.args.types.now.keys; rows = c.as_slice-rows.result.now }) c.in_ok-layout.layout) c.meta-2.ensures c.in_ok-layout.ensures in
-    linked_from v image name c.args.entry.now c.args.overriding.now.lists c.args.reached.now c.as_slice-rows.result.now c.as_slice-bodies.result.now c.as_slice.result.now c.args.types.now.keys c.from_vec.result c.from_vec-2.result c.maker_number.result c.in_ok-layout.layout
+    linked_from v image name c.args.entry.now c.args.overriding.now.lists c.args.reached.now c.as_slice-rows.result.now c.as_slice-bodies.result.now c.as_slice.result.now c.args.types.now.keys c.in_ok-table.table c.in_ok-methods.methods c.maker_number.result c.in_ok-layout.layout
     c.as_slice-rows.ensures c.as_slice-bodies.ensures c.as_slice.ensures is c.requires.lists reached met
-    (subst (λ ts. HasTypes v (record { keys = c.args.types.now.keys; rows = c.as_slice-rows.result.now }) c.args.overriding.now.lists ordered ts) (sym c.from_vec.ensures) typed_in_order)
-    (subst (λ ms. AreMethods v (record { keys = c.args.types.now.keys; rows = c.as_slice-rows.result.now }) c.as_slice-bodies.result.now ms) (sym c.from_vec-2.ensures) c.in_ok-methods.ensures)
+    (subst (λ ts. HasTypes v (record { keys = c.args.types.now.keys; rows = c.as_slice-rows.result.now }) c.args.overriding.now.lists ordered ts) (sym (c.in_ok-table.ensures ∙ c.from_vec.ensures)) typed_in_order)
+    c.in_ok-methods.ensures
     c.maker_number.ensures laid c.requires.few c.requires.owned
+
+pub new-requires : goal.new-requires
+new-requires c =
+    let typed = c.in_ok-infos.ensures in
+    record {
+      ends = λ type. subst (λ types. HasEnd (base_of types) type) (sym c.from_vec.ensures) ((linked_types c.meta.result.now (record { keys = c.args.types.now.keys; rows = c.as_slice-rows.result.now }) c.args.overriding.now.lists c.deref.result.now c.in_ok-infos.infos.items typed.linked typed.formed).bases type);
+    }
 
 pub layout_of-requires-clause-distinct : goal.layout_of-requires-clause-distinct
 layout_of-requires-clause-distinct c = apart (goal.at.layout_of-requires-clause-distinct c).After-as_slice-bodies

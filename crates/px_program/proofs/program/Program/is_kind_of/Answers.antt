@@ -1,24 +1,12 @@
-use Rattle.std.proofs.Common.{◌≡◌, Some, None, rules}
-use Rattle.px_program.specs.Formed.{base_of}
-use Rattle.px_program.proofs.Fitting.{base_step, kind_ends, kind_of_base, kind_on, kind_through}
+use Rattle.std.proofs.Common.{subst, eq-eqb, eqb-true}
+use Rattle.px_program.specs.Lines.{IsKindOf}
+use Rattle.px_program.proofs.Leaps.{climbs_to, ended_count}
 use Rattle.px_program.proofs.program.Program.is_kind_of.Goals as goal
 
-pub loop-at-smaller : goal.loop-at-smaller
-loop-at-smaller c =
-    let goes : base_of c.args.self.now.types c.loop-at.at ≡ Some c.in-Some.base = cc in
-    base_step c.args.self.now.types c.requires.types c.loop-at.at c.in-Some.base goes
-
-pub loop-at-preserved : goal.loop-at-preserved
-loop-at-preserved c =
+pub returns : goal.returns
+returns c =
     let types = c.args.self.now.types in
-    let goes : base_of types c.loop-at.at ≡ Some c.in-Some.base = cc in
-    record {
-      way = kind_through types c.args.type_number c.loop-at.at c.in-Some.base c.loop-at.invariant.way (kind_of_base types c.loop-at.at c.in-Some.base goes);
-      on = λ kind. kind_on types c.loop-at.at c.in-Some.base c.args.other goes c.loop-at-test.true (c.loop-at.invariant.on kind);
-    }
-
-pub returns-in-None : goal.returns-in-None
-returns-in-None c =
-    let types = c.args.self.now.types in
-    let ends : base_of types c.loop-at.at ≡ None = cc in
-    (λ no. absurd (search rules), λ kind. absurd (c.loop-at-test.true (kind_ends types c.loop-at.at c.args.other ends (c.loop-at.invariant.on kind))))
+    let has = ended_count types c.args.type_number (c.requires.types.bases c.args.type_number) in (
+      λ same. subst (IsKindOf types c.args.type_number) (eqb-true c.climb.result c.args.other same) c.climb.ensures.kind,
+      λ kind. eq-eqb c.climb.result c.args.other (climbs_to types c.args.type_number c.args.other c.climb.result has.0 c.step.result.depth has.1 c.step.ensures.depth c.climb.ensures.kind (c.climb.ensures.depth has.0 has.1) kind),
+    )
