@@ -56,6 +56,21 @@ a_negative_length : domain_of int32s (codes "(?-1..2x*)") ≡ Err 2
 unfolding domain_of groups_at part_at group_at array_at lengths_at range_at span_at number_at digits
 a_negative_length = refl
 
+-- A domain has at most 256 words: each of the first three arrays has 65, its shape and 64 elements. A word too many is at its group's first byte.
+abbrev four_arrays : List Given
+four_arrays = givens.Array Truth ∷ givens.Array Truth ∷ givens.Array Truth ∷ givens.Array Truth ∷ []
+
+abbrev up_to : ℕ → Part
+up_to most = Array Truth false 0 most (pos 0) (pos 1)
+
+words_256 : domain_of four_arrays (codes "(0..64x0..1)(0..64x0..1)(0..64x0..1)(0..60x0..1)") ≡ Ok (up_to 64 ∷ up_to 64 ∷ up_to 64 ∷ up_to 60 ∷ [])
+unfolding domain_of groups_at part_at group_at array_at lengths_at range_at span_at number_at digits
+words_256 = refl
+
+words_257 : domain_of four_arrays (codes "(0..64x0..1)(0..64x0..1)(0..64x0..1)(0..61x0..1)") ≡ Err 36
+unfolding domain_of groups_at part_at group_at array_at lengths_at range_at span_at number_at digits
+words_257 = refl
+
 -- Lengths out of order are at the first of them.
 lengths_out_of_order : domain_of int32s (codes "(?3..2x*)") ≡ Err 2
 unfolding domain_of groups_at part_at group_at array_at lengths_at range_at span_at number_at digits

@@ -8,10 +8,12 @@ mod ExamplesDomainFaults
 mod ExamplesEvents
 mod ExamplesExplorations
 mod ExamplesMembers
+mod ExamplesObjects
 mod ExamplesPlaces
 mod ExamplesPrograms
 mod ExamplesReports
 mod ExamplesRuns
+mod ExamplesSteps
 mod ExamplesTrees
 mod ExamplesTuples
 mod ExamplesTypes

@@ -1,3 +1,4 @@
+mod ExamplesClauses
 mod ExamplesKinds
 mod ExamplesMethods
 mod ExamplesRows

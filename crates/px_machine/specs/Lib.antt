@@ -1,0 +1,13 @@
+pub mod BlockRows
+pub mod BranchRows
+pub mod CallRows
+pub mod MoveRows
+pub mod NumberRows
+pub mod Numbers
+pub mod ObjectRows
+pub mod Parts
+pub mod Run
+pub mod Scalars
+pub mod State
+pub mod Steps
+pub mod Table
